@@ -1,0 +1,9 @@
+mod Tails
+mod Numbers
+mod Places
+mod FieldOrders
+mod Orders
+mod PackOrders
+mod ReadPacks
+mod PackReads
+mod Trips

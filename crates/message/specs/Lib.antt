@@ -1,0 +1,9 @@
+pub mod Kinds
+pub mod Faults
+pub mod Refusals
+pub mod Format
+pub mod Fields
+pub mod Reading
+pub mod Packing
+pub mod Trips
+pub mod Checks

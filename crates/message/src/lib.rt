@@ -1,0 +1,17 @@
+// Service messages: what sixteen bytes carry, how an event is packed, and the messages of a recording.
+mod events;
+mod faults;
+mod fields;
+mod kinds;
+mod packing;
+mod reading;
+
+pub use events::Event;
+pub use faults::FaultCode;
+pub use faults::FieldFault;
+pub use faults::MessageFault;
+pub use faults::PackFault;
+pub use kinds::Kind;
+pub use packing::pack;
+pub use reading::MESSAGE_LEN;
+pub use reading::read;
