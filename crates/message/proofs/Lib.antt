@@ -7,3 +7,4 @@ mod PackOrders
 mod ReadPacks
 mod PackReads
 mod Trips
+mod Walks

@@ -6,4 +6,5 @@ pub mod Fields
 pub mod Reading
 pub mod Packing
 pub mod Trips
+pub mod Recordings
 pub mod Checks

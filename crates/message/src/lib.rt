@@ -5,6 +5,7 @@ mod fields;
 mod kinds;
 mod packing;
 mod reading;
+mod recordings;
 
 pub use events::Event;
 pub use faults::FaultCode;
@@ -15,3 +16,4 @@ pub use kinds::Kind;
 pub use packing::pack;
 pub use reading::MESSAGE_LEN;
 pub use reading::read;
+pub use recordings::{Part, Recording, RecordingIterator};
