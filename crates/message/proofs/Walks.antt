@@ -15,8 +15,9 @@ use Rattle.message.specs.declared.recordings.Recording.{Recording}
 -- sixteen bytes from a place on, or what is left of them
 pub part-cut : (xs : List ℕ) (s e : ℕ) → s ≤ length xs → e ≡ min (length xs) (s + 16) → take (e - s) (drop s xs) ≡ take 16 (drop s xs)
 part-cut xs s e start end = elim (cases-lt (s + 16) (length xs)) [
-    inl l ↦ (let whole : e - s ≡ 16 = omega arith in ap (λ (k : ℕ). take k (drop s xs)) whole)
-  | inr l ↦ take-all (e - s) (drop s xs) (omega (arith, length-drop s xs)) ∙ sym (take-all 16 (drop s xs) (omega (arith, length-drop s xs))) ]
+  | inl l ↦ (let whole : e - s ≡ 16 = omega arith in ap (λ (k : ℕ). take k (drop s xs)) whole)
+  | inr l ↦ take-all (e - s) (drop s xs) (omega (arith, length-drop s xs)) ∙ sym (take-all 16 (drop s xs) (omega (arith, length-drop s xs)))
+]
 
 -- what is left of the recording goes out part by part
 rest-joined : (ps : List Part) (s : Recording) → Walk s ps → joined ps ≡ drop (16 * s .next) (s .bytes .now)
@@ -30,7 +31,7 @@ rest-joined (p ∷ ps) s w =
     let part : p .bytes .now ≡ partAt xs n = step .1 .bytes ∙ ap (partAt xs) (step .0) in
     let place : 16 * t .next ≡ 16 * n + 16 = omega (arith, step .3) in
     let rest : drop (16 * t .next) (t .bytes .now) ≡ drop 16 (drop (16 * n) xs) =
-      ap (λ (r : RefT (List ℕ)). drop (16 * t .next) (r .now)) (step .2) ∙ ap (λ (k : ℕ). drop k xs) place ∙ sym (drop-drop 16 (16 * n) xs) in
+    ap (λ (r : RefT (List ℕ)). drop (16 * t .next) (r .now)) (step .2) ∙ ap (λ (k : ℕ). drop k xs) place ∙ sym (drop-drop 16 (16 * n) xs) in
     let all = take-append-drop 16 (drop (16 * n) xs) in
     cc
 

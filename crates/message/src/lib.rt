@@ -16,4 +16,6 @@ pub use kinds::Kind;
 pub use packing::pack;
 pub use reading::MESSAGE_LEN;
 pub use reading::read;
-pub use recordings::{Part, Recording, RecordingIterator};
+pub use recordings::Part;
+pub use recordings::Recording;
+pub use recordings::RecordingIterator;

@@ -6,7 +6,8 @@ use Rattle.message.proofs.recordings.part_at.Needs as need
 
 pub returns : need.returns
 returns c = record {
-    within = omega arith;
-    block = refl;
-    place = omega arith;
-    bytes = part-cut (c .args .recording .now) (16 * c .args .ordinal) (c .min-end .result) (omega arith) (c .min-end .ensures) }
+  within = omega arith;
+  block = refl;
+  place = omega arith;
+  bytes = part-cut (c .args .recording .now) (16 * c .args .ordinal) (c .min-end .result) (omega arith) (c .min-end .ensures);
+}

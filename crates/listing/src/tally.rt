@@ -1,0 +1,54 @@
+// How many messages of each kind were read.
+ghost use mathlib.Core.Path.{_≡_};
+ghost use Prim.Native.Nat.{_-_, _<_};
+ghost use Rattle.message.specs.Kinds.{numberOf};
+ghost use Rattle.listing.specs.Counts.{Noted, countOf};
+use message::Kind;
+
+const KINDS: usize = 8;
+
+// How many messages in all, and of each kind in the order of their numbers. A count stays at the largest number once it
+// is there.
+#[derive(Clone, Copy)]
+pub struct Tally {
+    messages: u64,
+    counts: [u64; KINDS],
+}
+
+fn place(kind: Kind) -> usize
+    ensures { λ r. ⌜ r ≡ numberOf kind - 1 ⌝ ∗ ⌜ r < 8 ⌝ }
+{
+    kind.number() as usize - 1
+}
+
+impl Tally {
+    pub fn new() -> Tally
+        ensures { λ r. ⌜ r .messages ≡ 0 ⌝ ∗ ⌜ ((k : Kind) → countOf r k ≡ 0) ⌝ }
+    {
+        Tally {
+            messages: 0,
+            counts: [0; KINDS],
+        }
+    }
+
+    pub fn messages(&self) -> u64
+        ensures { λ r. ⌜ r ≡ now (self .entry) .messages ⌝ }
+    {
+        self.messages
+    }
+
+    pub fn of(&self, kind: Kind) -> u64
+        ensures { λ r. ⌜ r ≡ countOf (now (self .entry)) kind ⌝ }
+    {
+        self.counts[place(kind)]
+    }
+
+    // One more message of a kind.
+    pub fn note(&mut self, kind: Kind)
+        ensures { λ _. ⌜ Noted (now (self .entry)) kind (now (self .exit)) ⌝ }
+    {
+        self.messages = self.messages.saturating_add(1);
+        let i = place(kind);
+        self.counts[i] = self.counts[i].saturating_add(1);
+    }
+}
