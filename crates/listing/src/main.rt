@@ -2,10 +2,6 @@
 ghost use Prim.Native.Nat.{_≤_};
 ghost use lib.ListN.{length};
 ghost use Rattle.std.specs.Vec.{made};
-
-mod tally;
-mod words;
-
 use message::FaultCode;
 use message::Kind;
 use message::MessageFault;
@@ -14,11 +10,13 @@ use message::RecordingIterator;
 use message::read;
 use std::io;
 use std::io::Read;
-use tally::Tally;
-use words::Told;
-use words::ToldDisplay;
-use words::name_of;
-use words::reason_of;
+use wording::KindName;
+use wording::KindNameDisplay;
+use wording::Reason;
+use wording::ReasonDisplay;
+use wording::Tally;
+use wording::Told;
+use wording::ToldDisplay;
 
 // Input is read by blocks of whole messages, so that a recording of any size takes the same memory.
 const BLOCK: usize = 1024;
@@ -62,7 +60,7 @@ fn list_block(rt: &LibcRuntime, block: &[u8], tally: &mut Tally) -> io::Result<b
 }
 
 fn tell_fault(rt: &LibcRuntime, ordinal: u64, fault: MessageFault) -> io::Result<()> {
-    let reason = reason_of(fault);
+    let reason = Reason(fault);
     let FaultCode {
         number,
         layer,
@@ -79,7 +77,7 @@ fn tell_counts(rt: &LibcRuntime, tally: &Tally) -> io::Result<()> {
     println!(rt, "messages read: {messages}")?;
     for number in 1..=8 {
         if let Some(kind) = Kind::of(number) {
-            let name = name_of(kind);
+            let name = KindName(kind);
             let count = tally.of(kind);
             println!(rt, "  {name}: {count}")?;
         }

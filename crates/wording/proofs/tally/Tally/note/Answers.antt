@@ -4,8 +4,8 @@ use borrow.Author.Needs.{needs}
 use Prim.Native.Nat.{_-_}
 use lib.Seq.{getD-set-other}
 use Rattle.message.specs.Kinds.{numberOf}
-use Rattle.listing.proofs.Places.{places-apart}
-use Rattle.listing.proofs.tally.Tally.note.Needs as need
+use Rattle.wording.proofs.Places.{places-apart}
+use Rattle.wording.proofs.tally.Tally.note.Needs as need
 
 pub returns : need.returns
 returns c = record {

@@ -4,7 +4,7 @@ use Prim.Native.Nat.{ℕ, _+_, _-_, min}
 use lib.ListN.{getD}
 use Rattle.message.specs.Kinds.{numberOf}
 use Rattle.message.specs.declared.kinds.Kind.{Kind}
-use Rattle.listing.specs.declared.tally.Tally.{Tally}
+use Rattle.wording.specs.declared.tally.Tally.{Tally}
 
 -- how many messages of a kind were counted
 abbrev pub countOf : Tally → Kind → ℕ

@@ -2,7 +2,7 @@
 ghost use mathlib.Core.Path.{_≡_};
 ghost use Prim.Native.Nat.{_-_, _<_};
 ghost use Rattle.message.specs.Kinds.{numberOf};
-ghost use Rattle.listing.specs.Counts.{Noted, countOf};
+ghost use Rattle.wording.specs.Counts.{Noted, countOf};
 use message::Kind;
 
 const KINDS: usize = 8;

@@ -1,0 +1,11 @@
+// Messages and faults in words, and how many messages of each kind there were.
+mod tally;
+mod words;
+
+pub use tally::Tally;
+pub use words::KindName;
+pub use words::KindNameDisplay;
+pub use words::Reason;
+pub use words::ReasonDisplay;
+pub use words::Told;
+pub use words::ToldDisplay;
