@@ -14,21 +14,23 @@ use Rattle.std.specs.declared.option.Option.the-variants.{Some}
 use Rattle.std.specs.declared.result.Result.{Result}
 use Rattle.std.specs.declared.result.Result.the-variants.{Ok, Err}
 use Rattle.message.specs.Checks.{eventAt, bytesAt, FieldsFit, ValueFits, Decodes, NotDecoded, Encodes}
-use Rattle.message.specs.Faults.{messageCode}
+use Rattle.message.specs.Faults.{messageCode, packCode}
 use Rattle.message.specs.Format.{Stands, fieldsEnd, little, mapAt, field, Zeros}
 use Rattle.message.specs.Kinds.{kindOf, mapOf, mapFor}
-use Rattle.message.specs.Packing.{within, carried, laid, messageOf, Packing}
+use Rattle.message.specs.Packing.{within, carried, laid, messageOf, PackRefused, Packing}
 use Rattle.message.specs.Reading.{eventOf, Refused, Reading}
 use Rattle.message.specs.Refusals.{Comes}
 use Rattle.message.specs.Trips.{ReadsBack, PacksBack}
 use Rattle.message.specs.declared.events.Event.{Event}
 use Rattle.message.specs.declared.faults.MessageFault.{MessageFault}
 use Rattle.message.specs.declared.faults.MessageFault.the-variants.{Length, Map, Kind, MapOfKind, Filler, Field, Value}
+use Rattle.message.specs.declared.faults.PackFault.{PackFault}
+use Rattle.message.specs.declared.faults.PackFault.the-variants.{Short}
 use Rattle.message.specs.declared.kinds.Kind as kinds
 use Rattle.message.proofs.FieldOrders.{map-known, field-late}
 use Rattle.message.proofs.Numbers.{Bytes, little-below}
 use Rattle.message.proofs.Orders.{comes, none-holds, event-same}
-use Rattle.message.proofs.PackOrders.{none-packs}
+use Rattle.message.proofs.PackOrders.{none-packs, short-comes}
 use Rattle.message.proofs.PackReads.{laid-places, read-back, decodes, long}
 use Rattle.message.proofs.Places.{of-maps, eventUnder, eight}
 use Rattle.message.proofs.ReadPacks.{laid-again, within-again, part-bytes}
@@ -126,12 +128,14 @@ module _ (e : Event) (k : kinds.Kind) (bytes : List ℕ) (enc : Encodes e k byte
       let s : Reading b (Ok (carried e)) = subst (λ (m : ℕ). Reading b (Ok (within m e))) (sym known) r in
       subst (λ (x : List ℕ). Reading x (Ok (carried e))) (sym (enc .bytes ∙ places)) s
 
-  -- the caller's memory after a write to its front
-  pub packed : (before front rest : List ℕ) → 16 ≤ length before → front ≡ bytes → rest ≡ drop 16 before → Packing e before (front ++ rest) (Ok tt) × ReadsBack e (front ++ rest)
-  packed before front rest room same behind =
-      let sixteen : length front ≡ 16 = ap length same ∙ ap length (enc .bytes) in
-      let message = message-of in
-      let whole : front ++ rest ≡ messageOf e ++ drop 16 before = cc in
-      let first : front ≡ take 16 (front ++ rest) = sym (take-at front rest 16 sixteen) in
-      let read : Reading front (Ok (carried e)) = subst (λ (x : List ℕ). Reading x (Ok (carried e))) (sym same) reads-back in
-      ((none-packs e (length before) k (enc .kind) (enc .fields) (enc .value) room, whole), subst (λ (x : List ℕ). Reading x (Ok (carried e))) first read)
+  room-comes : (room : ℕ) (f : PackFault) → f ≡ Short → room < 16 → Comes (λ g. packCode g .number) (PackRefused e room) f
+  room-comes room f is short =
+      subst (λ (g : PackFault). Comes (λ h. packCode h .number) (PackRefused e room) g) (sym is) (short-comes e room k (enc .kind) (enc .fields) (enc .value) short)
+
+  -- the caller's memory after the message was written to its front, or was refused for want of room
+  pub written : (before after : List ℕ) (r : Result (Unit {0}) PackFault) → Cases r (λ _. (16 ≤ length before) × (after ≡ bytes ++ drop 16 before)) (λ f. (f ≡ Short) × (length before < 16) × (after ≡ before)) → Packing e before after r × made r (λ _. ReadsBack e after)
+  written before after (Ok _) w =
+      let sixteen : length bytes ≡ 16 = ap length (enc .bytes) in
+      let first : bytes ≡ take 16 after = sym (ap (take 16) (w .1) ∙ take-at bytes (drop 16 before) 16 sixteen) in
+      ((none-packs e (length before) k (enc .kind) (enc .fields) (enc .value) (w .0), w .1 ∙ ap (λ (x : List ℕ). x ++ drop 16 before) message-of), subst (λ (x : List ℕ). Reading x (Ok (carried e))) first reads-back)
+  written before after (Err f) w = ((room-comes (length before) f (w .0) (w .1), w .2), tt)

@@ -1,23 +1,18 @@
 -- The parts of a recording, one after the other.
 use mathlib.Core.Path.{_≡_, _∙_, refl, sym, ap, subst}
 use mathlib.Core.List.{List, [], _∷_, _++_}
-use mathlib.Core.Logic.{inl, inr}
-use Prim.Native.Nat.{ℕ, _+_, _-_, _*_, min, _≤_}
+use Prim.Native.Nat.{ℕ, _+_, _-_, _*_, _<_}
 use native.Mathlib.Omega.{arith}
 use denote.Ref.{RefT}
 use lib.ListN.{length, take, drop}
-use Rattle.std.proofs.shelf.Lists.{take-all, take-append-drop, drop-all, drop-drop, length-drop}
-use Rattle.std.proofs.shelf.Tests.{cases-lt}
+use Rattle.std.proofs.shelf.Lists.{take-all, take-rest, take-append-drop, drop-all, drop-drop, length-drop}
 use Rattle.message.specs.Recordings.{partAt, PartOf, Steps, Walk, joined, CountUp, Complete}
 use Rattle.message.specs.declared.recordings.Part.{Part}
 use Rattle.message.specs.declared.recordings.Recording.{Recording}
 
--- sixteen bytes from a place on, or what is left of them
-pub part-cut : (xs : List ℕ) (s e : ℕ) → s ≤ length xs → e ≡ min (length xs) (s + 16) → take (e - s) (drop s xs) ≡ take 16 (drop s xs)
-part-cut xs s e start end = elim (cases-lt (s + 16) (length xs)) [
-  | inl l ↦ (let whole : e - s ≡ 16 = omega arith in ap (λ (k : ℕ). take k (drop s xs)) whole)
-  | inr l ↦ take-all (e - s) (drop s xs) (omega (arith, length-drop s xs)) ∙ sym (take-all 16 (drop s xs) (omega (arith, length-drop s xs)))
-]
+-- what is left of a list, where that is less than sixteen
+pub part-rest : (xs : List ℕ) (s : ℕ) → length xs - s < 16 → take (length xs - s) (drop s xs) ≡ take 16 (drop s xs)
+part-rest xs s few = take-rest xs s ∙ sym (take-all 16 (drop s xs) (omega (arith, length-drop s xs)))
 
 -- what is left of the recording goes out part by part
 rest-joined : (ps : List Part) (s : Recording) → Walk s ps → joined ps ≡ drop (16 * s .next) (s .bytes .now)
@@ -39,7 +34,7 @@ rest-counted : (ps : List Part) (s : Recording) → Walk s ps → CountUp (s .ne
 rest-counted [] s w = tt
 rest-counted (p ∷ ps) s w = (w .1 .0, subst (λ (n : ℕ). CountUp n ps) (w .1 .3) (rest-counted ps (w .0) (w .2)))
 
-pub complete : (s : Recording) → s .next ≡ 0 → Complete (s .bytes) s
-complete s start ps w =
+pub complete : (recording : RefT (List ℕ)) (s : Recording) → s .bytes ≡ recording → s .next ≡ 0 → Complete recording s
+complete recording s whole start ps w =
     let none : 16 * s .next ≡ 0 = omega arith in
-    (rest-joined ps s w ∙ ap (λ (n : ℕ). drop n (s .bytes .now)) none, subst (λ (n : ℕ). CountUp n ps) start (rest-counted ps s w))
+    (rest-joined ps s w ∙ ap (λ (n : ℕ). drop n (s .bytes .now)) none ∙ ap (λ (r : RefT (List ℕ)). r .now) whole, subst (λ (n : ℕ). CountUp n ps) start (rest-counted ps s w))

@@ -13,7 +13,7 @@ pub struct FaultCode {
 }
 
 // A field that no message may hold: what reading and packing both refuse.
-#[derive(Clone, Copy, PartialEq, Eq, Debug)]
+#[derive(Clone, Copy)]
 pub enum FieldFault {
     Thread,
     Address,
@@ -22,7 +22,7 @@ pub enum FieldFault {
 }
 
 // Bytes that are no message. An offset is that of the first byte at fault.
-#[derive(Clone, Copy, PartialEq, Eq, Debug)]
+#[derive(Clone, Copy)]
 pub enum MessageFault {
     Length,
     Map,
@@ -34,7 +34,7 @@ pub enum MessageFault {
 }
 
 // An event that no message carries, or memory too short for one.
-#[derive(Clone, Copy, PartialEq, Eq, Debug)]
+#[derive(Clone, Copy)]
 pub enum PackFault {
     Kind,
     Field(FieldFault),

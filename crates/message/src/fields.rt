@@ -5,12 +5,12 @@ use crate::events::Event;
 use crate::faults::FieldFault;
 use crate::kinds::Kind;
 
-pub const THREADS: u8 = 4;
+const THREADS: u8 = 4;
 
-pub const MEMORY: u16 = 4096;
+const MEMORY: u16 = 4096;
 
 // Refuses a thread, an address or a width that no message holds, in this order; fields that the kind lacks pass.
-pub fn check_fields(kind: Kind, event: &Event) -> Result<(), FieldFault>
+pub(crate) fn check_fields(kind: Kind, event: &Event) -> Result<(), FieldFault>
     ensures { λ r. ⌜ Cases r (λ _. FieldsFit kind (now (event .entry))) (λ f. FieldsFail kind (now (event .entry)) f) ⌝ }
 {
     if kind.has_thread() && event.thread >= THREADS {

@@ -3,7 +3,7 @@ ghost use mathlib.Core.Path.{_≡_};
 ghost use Rattle.message.specs.Format.{stands, fieldsEnd};
 ghost use Rattle.message.specs.Kinds.{numberOf, mapOf, kindOf};
 
-#[derive(Clone, Copy, PartialEq, Eq, Debug)]
+#[derive(Clone, Copy)]
 pub enum Kind {
     Store = 1,
     StrongFlush = 2,
@@ -40,7 +40,7 @@ impl Kind {
     }
 
     // The bit map of its messages.
-    pub fn map(self) -> u8
+    pub(crate) fn map(self) -> u8
         ensures { λ r. ⌜ r ≡ mapOf self ⌝ }
     {
         match self {
@@ -51,13 +51,13 @@ impl Kind {
         }
     }
 
-    pub fn has_thread(self) -> bool
+    pub(crate) fn has_thread(self) -> bool
         ensures { λ r. ⌜ r ≡ stands (mapOf self) 1 ⌝ }
     {
         !matches!(self, Kind::PowerCut)
     }
 
-    pub fn has_address(self) -> bool
+    pub(crate) fn has_address(self) -> bool
         ensures { λ r. ⌜ r ≡ stands (mapOf self) 2 ⌝ }
     {
         matches!(
@@ -67,7 +67,7 @@ impl Kind {
     }
 
     // Whether its messages have a width and a value.
-    pub fn has_value(self) -> bool
+    pub(crate) fn has_value(self) -> bool
         ensures width { λ r. ⌜ r ≡ stands (mapOf self) 3 ⌝ }
         ensures value { λ r. ⌜ r ≡ stands (mapOf self) 4 ⌝ }
     {
@@ -75,7 +75,7 @@ impl Kind {
     }
 
     // The offset of the first filler byte of its messages.
-    pub fn fields_end(self) -> usize
+    pub(crate) fn fields_end(self) -> usize
         ensures { λ r. ⌜ r ≡ fieldsEnd (mapOf self) ⌝ }
     {
         match self {

@@ -1,6 +1,8 @@
 // Packing an event into a message.
 ghost use mathlib.Core.Path.{_≡_};
-ghost use Prim.Native.Nat.{_^_, _<_};
+ghost use mathlib.Core.List.{_++_};
+ghost use Prim.Native.Nat.{_^_, _<_, _≤_};
+ghost use lib.ListN.{length, drop};
 ghost use Rattle.std.specs.Orderings.{Decides};
 ghost use Rattle.std.specs.Results.{Cases};
 ghost use Rattle.std.specs.Vec.{made};
@@ -9,6 +11,7 @@ ghost use Rattle.message.specs.Fields.{IsWidth};
 ghost use Rattle.message.specs.Kinds.{mapOf};
 ghost use Rattle.message.specs.Packing.{within, Packing};
 ghost use Rattle.message.specs.Trips.{ReadsBack};
+ghost use Rattle.message.specs.declared.faults.PackFault.the-variants.{Short};
 use crate::events::Event;
 use crate::faults::PackFault;
 use crate::faults::PackFromField;
@@ -82,15 +85,22 @@ fn encode(event: &Event) -> Result<[u8; 16], PackFault>
     Ok(bytes_at(kind, &carried(kind, event)))
 }
 
+// Writes a message to the front of `out`, if it has room.
+fn write_front(message: &[u8; 16], out: &mut [u8]) -> Result<(), PackFault>
+    ensures { λ r. ⌜ Cases r (λ _. (16 ≤ length (now (out .entry))) × (now (out .exit) ≡ now (message .entry) ++ drop 16 (now (out .entry)))) (λ f. (f ≡ Short) × (length (now (out .entry)) < 16) × (now (out .exit) ≡ now (out .entry))) ⌝ }
+{
+    if out.len() < MESSAGE_LEN {
+        return Err(PackFault::Short);
+    }
+    out[0..MESSAGE_LEN].copy_from_slice(message);
+    Ok(())
+}
+
 // Writes the message of an event to the front of `out`, or refuses and leaves `out` as it was.
 pub fn pack(event: &Event, out: &mut [u8]) -> Result<(), PackFault>
     ensures packs { λ r. ⌜ Packing (now (event .entry)) (now (out .entry)) (now (out .exit)) r ⌝ }
     ensures reads { λ r. ⌜ made r (λ _. ReadsBack (now (event .entry)) (now (out .exit))) ⌝ }
 {
     let message = encode(event)?;
-    if out.len() < MESSAGE_LEN {
-        return Err(PackFault::Short);
-    }
-    out[0..MESSAGE_LEN].copy_from_slice(&message);
-    Ok(())
+    write_front(&message, out)
 }

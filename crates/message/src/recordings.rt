@@ -32,8 +32,17 @@ fn part_at(recording: &[u8], ordinal: usize) -> Option<&[u8]>
     if start >= recording.len() {
         return None;
     }
-    let end = recording.len().min(start + MESSAGE_LEN);
-    Some(&recording[start..end])
+    if recording.len() - start < MESSAGE_LEN {
+        return Some(&recording[start..]);
+    }
+    Some(&recording[start..start + MESSAGE_LEN])
+}
+
+// The reader before its first step.
+fn start<'a>(bytes: &'a [u8]) -> Recording<'a>
+    ensures { λ r. ⌜ (r .bytes ≡ bytes .entry) × (r .next ≡ 0) ⌝ }
+{
+    Recording { bytes, next: 0 }
 }
 
 impl<'a> Recording<'a> {
@@ -41,7 +50,7 @@ impl<'a> Recording<'a> {
         ensures starts { λ r. ⌜ (r .bytes ≡ bytes .entry) × (r .next ≡ 0) ⌝ }
         ensures complete { λ r. ⌜ Complete (bytes .entry) r ⌝ }
     {
-        Recording { bytes, next: 0 }
+        start(bytes)
     }
 }
 
