@@ -86,43 +86,19 @@ impl MessageFault {
     pub fn code(self) -> FaultCode
         ensures { λ r. ⌜ r ≡ messageCode self ⌝ }
     {
-        let layer = 1;
-        match self {
-            MessageFault::Length => FaultCode {
-                number: 1,
-                layer,
-                place: 0,
-            },
-            MessageFault::Map => FaultCode {
-                number: 2,
-                layer,
-                place: 0,
-            },
-            MessageFault::Kind => FaultCode {
-                number: 3,
-                layer,
-                place: 1,
-            },
-            MessageFault::MapOfKind => FaultCode {
-                number: 4,
-                layer,
-                place: 0,
-            },
-            MessageFault::Filler { offset } => FaultCode {
-                number: 5,
-                layer,
-                place: offset,
-            },
-            MessageFault::Field(fault) => FaultCode {
-                number: fault.number(),
-                layer,
-                place: fault.place(),
-            },
-            MessageFault::Value { offset } => FaultCode {
-                number: 10,
-                layer,
-                place: offset,
-            },
+        let (number, place) = match self {
+            MessageFault::Length => (1, 0),
+            MessageFault::Map => (2, 0),
+            MessageFault::Kind => (3, 1),
+            MessageFault::MapOfKind => (4, 0),
+            MessageFault::Filler { offset } => (5, offset),
+            MessageFault::Field(fault) => (fault.number(), fault.place()),
+            MessageFault::Value { offset } => (10, offset),
+        };
+        FaultCode {
+            number,
+            layer: 1,
+            place,
         }
     }
 }

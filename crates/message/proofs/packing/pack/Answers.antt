@@ -11,7 +11,8 @@ returns-in-Break-message c =
     rw (p .1, p .2)
     (record {
       packs = (pack-comes (c .args .event .now) (length (c .args .out .now)) (c .in-Break-message .field-0 .0) (c .in-Break-message .ensures tt), refl);
-      reads = tt })
+      reads = tt;
+    })
 
 pub returns : need.returns
 returns c =

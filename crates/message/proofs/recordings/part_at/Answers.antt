@@ -6,7 +6,8 @@ use Rattle.message.proofs.recordings.part_at.Needs as need
 
 pub returns-then-recording-start-lt-MESSAGE-LEN : need.returns-then-recording-start-lt-MESSAGE-LEN
 returns-then-recording-start-lt-MESSAGE-LEN c = record {
-    within = omega arith;
-    block = refl;
-    place = omega arith;
-    bytes = part-rest (c .args .recording .now) (16 * c .args .ordinal) (omega arith) }
+  within = omega arith;
+  block = refl;
+  place = omega arith;
+  bytes = part-rest (c .args .recording .now) (16 * c .args .ordinal) (omega arith);
+}
