@@ -38,7 +38,7 @@ fn fill(input: &mut impl Read, block: &mut [u8]) -> io::Result<usize>
 
 // Prints the messages of a block, and answers whether all of them were read.
 fn list_block(rt: &LibcRuntime, block: &[u8], tally: &mut Tally) -> io::Result<bool> {
-    let before = tally.messages();
+    let before = tally.messages;
     for part in Recording::new(block) {
         let ordinal = before.saturating_add(part.ordinal as u64);
         match read(part.bytes) {
@@ -73,7 +73,7 @@ fn tell_fault(rt: &LibcRuntime, ordinal: u64, fault: MessageFault) -> io::Result
 }
 
 fn tell_counts(rt: &LibcRuntime, tally: &Tally) -> io::Result<()> {
-    let messages = tally.messages();
+    let messages = tally.messages;
     println!(rt, "messages read: {messages}")?;
     for number in 1..=8 {
         if let Some(kind) = Kind::of(number) {

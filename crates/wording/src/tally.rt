@@ -11,7 +11,7 @@ const KINDS: usize = 8;
 // is there.
 #[derive(Clone, Copy)]
 pub struct Tally {
-    messages: u64,
+    pub messages: u64,
     counts: [u64; KINDS],
 }
 
@@ -29,12 +29,6 @@ impl Tally {
             messages: 0,
             counts: [0; KINDS],
         }
-    }
-
-    pub fn messages(&self) -> u64
-        ensures { λ r. ⌜ r ≡ now (self .entry) .messages ⌝ }
-    {
-        self.messages
     }
 
     pub fn of(&self, kind: Kind) -> u64
