@@ -1,6 +1,6 @@
 // How many messages of each kind were read.
 ghost use mathlib.Core.Path.{_≡_};
-ghost use Prim.Native.Nat.{_-_, _<_};
+ghost use Prim.Native.Nat.{_+_, _-_, min, _<_};
 ghost use Rattle.message.specs.Kinds.{numberOf};
 ghost use Rattle.wording.specs.Counts.{Noted, countOf};
 use message::Kind;
@@ -19,6 +19,13 @@ fn place(kind: Kind) -> usize
     ensures { λ r. ⌜ r ≡ numberOf kind - 1 ⌝ ∗ ⌜ r < 8 ⌝ }
 {
     kind.number() as usize - 1
+}
+
+// One more, up to the largest number.
+fn raised(count: u64) -> u64
+    ensures { λ r. ⌜ r ≡ min (count + 1) 18446744073709551615 ⌝ }
+{
+    count.saturating_add(1)
 }
 
 impl Tally {
@@ -41,8 +48,8 @@ impl Tally {
     pub fn note(&mut self, kind: Kind)
         ensures { λ _. ⌜ Noted (now (self .entry)) kind (now (self .exit)) ⌝ }
     {
-        self.messages = self.messages.saturating_add(1);
+        self.messages = raised(self.messages);
         let i = place(kind);
-        self.counts[i] = self.counts[i].saturating_add(1);
+        self.counts[i] = raised(self.counts[i]);
     }
 }
