@@ -1,11 +1,18 @@
 // Messages and faults in words.
+ghost use mathlib.Core.Path.{_≡_};
+ghost use Prim.Native.Nat.{_/_};
 use message::Event;
 use message::FieldFault;
 use message::Kind;
 use message::MessageFault;
 use std::fmt;
 
-const LINE: u16 = 64;
+// The cache line of an address.
+fn line_of(address: u16) -> u16
+    ensures { λ r. ⌜ r ≡ address / 64 ⌝ }
+{
+    address / 64
+}
 
 // The name of a kind.
 #[derive(Clone, Copy)]
@@ -38,7 +45,7 @@ pub impl fmt::Display for Told as ToldDisplay {
     fn fmt<W: fmt::Write>(&self, f: &mut fmt::Formatter<W>) -> fmt::Result {
         let thread = self.event.thread;
         let address = self.event.address;
-        let line = address / LINE;
+        let line = line_of(address);
         let width = self.event.width;
         let value = self.event.value;
         match self.kind {
