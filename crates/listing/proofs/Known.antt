@@ -6,7 +6,7 @@ use Rattle.std.specs.declared.option.Option.{Option}
 use Rattle.std.specs.declared.option.Option.the-variants.{None}
 use Rattle.std.specs.declared.result.Result.the-variants.{Ok}
 use Rattle.message.specs.Kinds.{kindOf}
-use Rattle.message.specs.Reading.{Reading, eventOf}
+use Rattle.message.specs.Reading.{Reading}
 use Rattle.message.specs.declared.events.Event.{Event}
 use Rattle.message.specs.declared.faults.MessageFault.the-variants as faults
 use Rattle.message.specs.declared.kinds.Kind.{Kind}

@@ -1,26 +1,22 @@
 -- The refusal that the checks of reading find is the first whose condition holds.
 use mathlib.Core.Path.{_≡_, _∙_, refl, sym, ap, subst}
-use mathlib.Core.Bool.{Bool, true, false}
+use mathlib.Core.Bool.{true, false}
 use mathlib.Core.List.{List}
-use mathlib.Core.Logic.{_⊎_, inl, inr}
-use Prim.Native.Nat.{ℕ, _+_, _/_, _%_, _^_, _<_, _≤_}
+use mathlib.Core.Logic.{inl, inr}
+use Prim.Native.Nat.{ℕ, _+_, _<_, _≤_}
 use native.Mathlib.Omega.{arith}
 use borrow.Author.Needs.{needs}
 use lib.Dec.{lit<}
 use lib.ListN.{length, getD}
-use Rattle.std.specs.Results.{Cases}
-use Rattle.std.specs.declared.option.Option.{Option}
-use Rattle.std.specs.declared.option.Option.the-variants.{Some, None}
-use Rattle.std.specs.declared.result.Result.{Result}
-use Rattle.std.specs.declared.result.Result.the-variants.{Ok, Err}
+use Rattle.std.specs.declared.option.Option.the-variants.{Some}
 use Rattle.std.proofs.shelf.Tests.{cases-lt, cases-eq, cases-bool}
 use Rattle.std.proofs.shelf.Ways.{tells}
-use Rattle.message.specs.Checks.{MapSound, Head, eventAt, ThreadFits, AddressFits, FieldsFit, Decodes, NotDecoded}
+use Rattle.message.specs.Checks.{MapSound, Head, eventAt, Decodes, NotDecoded}
 use Rattle.message.specs.Faults.{messageCode}
-use Rattle.message.specs.Fields.{IsWidth, FieldRefused}
+use Rattle.message.specs.Fields.{FieldRefused}
 use Rattle.message.specs.Format.{stands, Stands, offset, fieldsEnd, mapAt, field, Zeros, FirstNonzero}
 use Rattle.message.specs.Kinds.{kindOf, mapOf, mapFor}
-use Rattle.message.specs.Reading.{eventOf, MapRefused, Refused, Reading}
+use Rattle.message.specs.Reading.{eventOf, MapRefused, Refused}
 use Rattle.message.specs.Refusals.{Comes, NoneHolds}
 use Rattle.message.specs.declared.events.Event.{Event}
 use Rattle.message.specs.declared.faults.FieldFault.{FieldFault}

@@ -1,20 +1,18 @@
 -- The refusal that the checks of packing find is the first whose condition holds.
-use mathlib.Core.Path.{_≡_, refl, sym, ap, subst}
-use mathlib.Core.List.{List}
-use Prim.Native.Nat.{ℕ, _^_, _<_, _≤_}
+use mathlib.Core.Path.{_≡_, sym, subst}
+use Prim.Native.Nat.{ℕ, _<_, _≤_}
 use native.Mathlib.Omega.{arith}
 use borrow.Author.Needs.{needs}
 use lib.Dec.{lit<, lit≤}
-use Rattle.std.specs.declared.option.Option.the-variants.{Some, None}
+use Rattle.std.specs.declared.option.Option.the-variants.{Some}
 use Rattle.message.specs.Checks.{FieldsFit, ValueFits, NotEncoded}
 use Rattle.message.specs.Faults.{packCode}
 use Rattle.message.specs.Fields.{FieldRefused}
 use Rattle.message.specs.Format.{Stands}
-use Rattle.message.specs.Kinds.{kindOf, mapOf, mapFor}
+use Rattle.message.specs.Kinds.{kindOf, mapOf}
 use Rattle.message.specs.Packing.{PackRefused}
 use Rattle.message.specs.Refusals.{Comes, NoneHolds}
 use Rattle.message.specs.declared.events.Event.{Event}
-use Rattle.message.specs.declared.faults.FieldFault.{FieldFault}
 use Rattle.message.specs.declared.faults.FieldFault.the-variants.{Thread, Address, Width, Unaligned}
 use Rattle.message.specs.declared.faults.PackFault.{PackFault}
 use Rattle.message.specs.declared.faults.PackFault.the-variants.{Kind, Field, Value, Short}

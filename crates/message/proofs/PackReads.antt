@@ -1,22 +1,19 @@
 -- What was packed reads as the event, with 0 in each field that its kind lacks.
 use mathlib.Core.Path.{_≡_, _∙_, refl, sym, ap, subst}
-use mathlib.Core.Bool.{Bool, true, cond}
-use mathlib.Core.List.{List, [], _∷_, _++_}
+use mathlib.Core.List.{List, [], _∷_}
 use mathlib.Core.Logic.{inl, inr}
-use Prim.Native.Nat.{ℕ, _+_, _-_, _*_, _/_, _%_, _^_, _<_, _≤_}
+use Prim.Native.Nat.{ℕ, _+_, _-_, _%_, _^_, _<_}
 use native.Mathlib.Nat.{div-div-eq-div-mul}
 use native.Mathlib.Omega.{arith}
-use lib.Dec.{lit<}
-use lib.ListN.{length, getD, take, drop, replicate}
+use lib.ListN.{length, getD, drop, replicate}
 use Rattle.std.proofs.shelf.Lists.{getD-past, getD-drop, getD-replicate, getD-append-left}
 use Rattle.std.proofs.shelf.Tests.{cases-lt}
 use Rattle.std.specs.declared.option.Option.the-variants.{Some, None}
 use Rattle.message.specs.Checks.{eventAt, bytesAt, FieldsFit, ValueFits, Decodes}
 use Rattle.message.specs.Fields.{IsWidth}
-use Rattle.message.specs.Format.{stands, Stands, room, offset, fieldsEnd, little, bytesOf, mapAt, Zeros}
+use Rattle.message.specs.Format.{Stands, fieldsEnd, bytesOf, Zeros}
 use Rattle.message.specs.Kinds.{kinds, kindOf, mapOf}
 use Rattle.message.specs.Packing.{within, laid}
-use Rattle.message.specs.Reading.{eventOf}
 use Rattle.message.specs.declared.events.Event.{Event}
 use Rattle.message.specs.declared.kinds.Kind.{Kind}
 use Rattle.message.proofs.Numbers.{little-bytesOf, length-bytesOf, bytes-beyond}

@@ -1,14 +1,14 @@
 -- The fields of a message under the map of a kind, by their offsets.
-use mathlib.Core.Path.{_≡_, _∙_, refl, sym, ap, subst}
+use mathlib.Core.Path.{_≡_, _∙_, refl, sym, ap}
 use mathlib.Core.Bool.{true}
-use mathlib.Core.List.{List, [], _∷_}
+use mathlib.Core.List.{List}
 use Prim.Native.Nat.{ℕ, zero, suc, _+_, _*_, _%_, _<_, _≤_}
 use native.Mathlib.Omega.{arith}
 use lib.ListN.{length, getD, take, drop}
 use lib.Seq.{drop-cons}
 use Rattle.std.proofs.shelf.Ways.{tells}
 use Rattle.message.specs.Checks.{valueAt, eventAt}
-use Rattle.message.specs.Format.{stands, Stands, room, offset, fieldsEnd, little, mapAt, field, Zeros}
+use Rattle.message.specs.Format.{stands, Stands, room, offset, fieldsEnd, little, field, Zeros}
 use Rattle.message.specs.Kinds.{mapOf}
 use Rattle.message.specs.Reading.{eventOf}
 use Rattle.message.specs.declared.events.Event.{Event}

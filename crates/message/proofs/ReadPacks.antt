@@ -9,10 +9,8 @@ use lib.ListN.{length, getD, take, drop, replicate}
 use lib.Seq.{drop-cons}
 use Rattle.std.proofs.shelf.Lists.{ext-getD, getD-past, getD-take, getD-drop, getD-replicate, length-drop, length-take, length-replicate, take-append-drop, drop-drop}
 use Rattle.std.proofs.shelf.Tests.{cases-lt}
-use Rattle.message.specs.Format.{stands, room, offset, fieldsEnd, little, bytesOf, mapAt, field, Zeros}
-use Rattle.message.specs.Packing.{within, fieldsOf, laid}
-use Rattle.message.specs.Reading.{eventOf}
-use Rattle.message.specs.declared.events.Event.{Event}
+use Rattle.message.specs.Format.{stands, room, offset, fieldsEnd, little, bytesOf, field, Zeros}
+use Rattle.message.specs.Packing.{within, laid}
 use Rattle.message.proofs.Numbers.{Bytes, bytesOf-little}
 use Rattle.message.proofs.Places.{fieldUnder, eventUnder, same-event}
 

@@ -4,7 +4,7 @@ use mathlib.Core.List.{List, _++_}
 use mathlib.Core.Logic.{inl, inr}
 use Prim.Native.Nat.{ℕ, _+_, _^_, _<_, _≤_}
 use native.Mathlib.Omega.{arith}
-use lib.Dec.{lit<, lit≤}
+use lib.Dec.{lit≤}
 use lib.ListN.{length, getD, take, drop}
 use Rattle.std.proofs.shelf.Lists.{getD-past, getD-take, getD-drop, length-take, length-drop, take-at}
 use Rattle.std.proofs.shelf.Tests.{cases-lt}
@@ -15,7 +15,7 @@ use Rattle.std.specs.declared.result.Result.{Result}
 use Rattle.std.specs.declared.result.Result.the-variants.{Ok, Err}
 use Rattle.message.specs.Checks.{eventAt, bytesAt, FieldsFit, ValueFits, Decodes, NotDecoded, Encodes}
 use Rattle.message.specs.Faults.{messageCode, packCode}
-use Rattle.message.specs.Format.{Stands, fieldsEnd, little, mapAt, field, Zeros}
+use Rattle.message.specs.Format.{Stands, fieldsEnd, little, mapAt, Zeros}
 use Rattle.message.specs.Kinds.{kindOf, mapOf, mapFor}
 use Rattle.message.specs.Packing.{within, carried, laid, messageOf, PackRefused, Packing}
 use Rattle.message.specs.Reading.{eventOf, Refused, Reading}
@@ -32,7 +32,7 @@ use Rattle.message.proofs.Numbers.{Bytes, little-below}
 use Rattle.message.proofs.Orders.{comes, none-holds, event-same}
 use Rattle.message.proofs.PackOrders.{none-packs, short-comes}
 use Rattle.message.proofs.PackReads.{laid-places, read-back, decodes, long}
-use Rattle.message.proofs.Places.{of-maps, eventUnder, eight}
+use Rattle.message.proofs.Places.{of-maps, eight}
 use Rattle.message.proofs.ReadPacks.{laid-again, within-again, part-bytes}
 
 number-least : (f : MessageFault) → 1 ≤ messageCode f .number

@@ -1,12 +1,12 @@
 -- The parts of a recording, one after the other.
-use mathlib.Core.Path.{_≡_, _∙_, refl, sym, ap, subst}
-use mathlib.Core.List.{List, [], _∷_, _++_}
+use mathlib.Core.Path.{_≡_, _∙_, sym, ap, subst}
+use mathlib.Core.List.{List, [], _∷_}
 use Prim.Native.Nat.{ℕ, _+_, _-_, _*_, _<_}
 use native.Mathlib.Omega.{arith}
 use denote.Ref.{RefT}
 use lib.ListN.{length, take, drop}
 use Rattle.std.proofs.shelf.Lists.{take-all, take-rest, take-append-drop, drop-all, drop-drop, length-drop}
-use Rattle.message.specs.Recordings.{partAt, PartOf, Steps, Walk, joined, CountUp, Complete}
+use Rattle.message.specs.Recordings.{partAt, Walk, joined, CountUp, Complete}
 use Rattle.message.specs.declared.recordings.Part.{Part}
 use Rattle.message.specs.declared.recordings.Recording.{Recording}
 

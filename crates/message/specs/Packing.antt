@@ -1,7 +1,7 @@
 -- What packing an event into a caller's memory answers, and what the memory holds then.
 use mathlib.Core.Path.{_≡_}
 use mathlib.Core.Bool.{cond}
-use mathlib.Core.List.{List, [], _∷_, _++_}
+use mathlib.Core.List.{List, _∷_, _++_}
 use Prim.Native.Nat.{ℕ, _-_, _^_, _<_, _≤_}
 use lib.ListN.{length, drop, replicate}
 use Rattle.std.specs.declared.option.Option.the-variants.{None}

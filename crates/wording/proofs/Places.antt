@@ -1,6 +1,6 @@
 -- Kinds by their numbers.
 use mathlib.Core.Path.{_≡_, refl}
-use Prim.Native.Nat.{ℕ, _-_, _≤_}
+use Prim.Native.Nat.{_-_, _≤_}
 use native.Mathlib.Omega.{arith}
 use lib.Dec.{lit≤}
 use Rattle.std.specs.declared.option.Option.the-variants.{Some}
