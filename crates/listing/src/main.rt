@@ -2,21 +2,17 @@
 ghost use Prim.Native.Nat.{_≤_};
 ghost use lib.ListN.{length};
 ghost use Rattle.std.specs.Vec.{made};
-use message::FaultCode;
 use message::Kind;
-use message::MessageFault;
 use message::Recording;
 use message::RecordingIterator;
-use message::read;
 use std::io;
 use std::io::Read;
 use wording::KindName;
 use wording::KindNameDisplay;
-use wording::Reason;
-use wording::ReasonDisplay;
+use wording::Line;
+use wording::LineDisplay;
 use wording::Tally;
-use wording::Told;
-use wording::ToldDisplay;
+use wording::list;
 
 // Input is read by blocks of whole messages, so that a recording of any size takes the same memory.
 const BLOCK: usize = 1024;
@@ -38,38 +34,14 @@ fn fill(input: &mut impl Read, block: &mut [u8]) -> io::Result<usize>
 
 // Prints the messages of a block, and answers whether all of them were read.
 fn list_block(rt: &LibcRuntime, block: &[u8], tally: &mut Tally) -> io::Result<bool> {
-    let before = tally.messages;
     for part in Recording::new(block) {
-        let ordinal = before.saturating_add(part.ordinal as u64);
-        match read(part.bytes) {
-            Ok(event) => {
-                let Some(kind) = Kind::of(event.kind) else {
-                    unreachable()
-                };
-                let told = Told { kind, event };
-                println!(rt, "{ordinal}: {told}")?;
-                tally.note(kind);
-            }
-            Err(fault) => {
-                tell_fault(rt, ordinal, fault)?;
-                return Ok(false);
-            }
+        let line = list(part.bytes, tally);
+        println!(rt, "{line}")?;
+        if let Line::Refusal { .. } = line {
+            return Ok(false);
         }
     }
     Ok(true)
-}
-
-fn tell_fault(rt: &LibcRuntime, ordinal: u64, fault: MessageFault) -> io::Result<()> {
-    let reason = Reason(fault);
-    let FaultCode {
-        number,
-        layer,
-        place,
-    } = fault.code();
-    println!(
-        rt,
-        "{ordinal}: refused, since {reason}: fault {number} of layer {layer} (message) at byte {place}"
-    )
 }
 
 fn tell_counts(rt: &LibcRuntime, tally: &Tally) -> io::Result<()> {

@@ -45,7 +45,7 @@ impl Tally {
     }
 
     // One more message of a kind.
-    pub fn note(&mut self, kind: Kind)
+    pub(crate) fn note(&mut self, kind: Kind)
         ensures { λ _. ⌜ Noted (now (self .entry)) kind (now (self .exit)) ⌝ }
     {
         self.messages = raised(self.messages);
