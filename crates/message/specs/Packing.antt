@@ -49,7 +49,8 @@ PackRefused e n (Field f) = FieldRefused (mapFor (e .kind)) e f
 PackRefused e n Value = Stands (mapFor (e .kind)) 4 × (256 ^ e .width ≤ e .value)
 PackRefused e n Short = n < 16
 
--- the message stands in front and all behind it is as it was, or the first refusal comes and the memory stays
+-- the message stands in front and all behind it is as it was; or the first refusal comes, in the order of the numbers, and
+-- the memory stays
 abbrev pub Packing : Event → List ℕ → List ℕ → Result (Unit {0}) PackFault → Type 0
 Packing e before after (Ok _) = NoneHolds (PackRefused e (length before)) × (after ≡ messageOf e ++ drop 16 before)
 Packing e before after (Err f) = Comes (λ g. packCode g .number) (PackRefused e (length before)) f × (after ≡ before)

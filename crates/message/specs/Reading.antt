@@ -35,7 +35,7 @@ Refused b (Filler i) = FirstNonzero b (fieldsEnd (mapAt b)) 16 i
 Refused b (Field f) = FieldRefused (mapAt b) (eventOf b) f
 Refused b (Value i) = Stands (mapAt b) 4 × FirstNonzero b (offset (mapAt b) 4 + eventOf b .width) (offset (mapAt b) 4 + 8) i
 
--- an event where no refusal's condition holds, and else the first refusal whose condition does
+-- an event where no refusal's condition holds, and else the first refusal whose condition does, in the order of the numbers
 abbrev pub Reading : List ℕ → Result Event MessageFault → Type 0
 Reading b (Ok e) = NoneHolds (Refused b) × (e ≡ eventOf b)
 Reading b (Err f) = Comes (λ g. messageCode g .number) (Refused b) f
