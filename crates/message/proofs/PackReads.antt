@@ -17,7 +17,7 @@ use Rattle.message.specs.Packing.{within, laid}
 use Rattle.message.specs.declared.events.Event.{Event}
 use Rattle.message.specs.declared.kinds.Kind.{Kind}
 use Rattle.message.proofs.Numbers.{little-bytesOf, length-bytesOf, bytes-beyond}
-use Rattle.message.proofs.Places.{of-maps, eventUnder, same-event, event-places}
+use Rattle.message.proofs.Places.{of-maps, of-full, eventUnder, same-event, event-places}
 
 -- each field that a map has takes no more bytes than the message has for it
 record Sized (m : ℕ) (e : Event) : Type 0 where
@@ -41,10 +41,10 @@ width-small w v (inr (inr h)) = (omega arith, λ b. subst (λ (n : ℕ). v < 256
 
 -- a kind that has a value has a width, and one that has a width has an address
 placed : (k : Kind) → Stands (mapOf k) 3 → Stands (mapOf k) 2
-placed = of-maps (λ m. Stands m 3 → Stands m 2) (λ _. refl) (λ s. absurd (grind arith)) (λ s. absurd (grind arith)) (λ s. absurd (grind arith))
+placed = of-full 3 refl refl refl (λ m. Stands m 2) refl
 
 wide : (k : Kind) → Stands (mapOf k) 4 → Stands (mapOf k) 3
-wide = of-maps (λ m. Stands m 4 → Stands m 3) (λ _. refl) (λ s. absurd (grind arith)) (λ s. absurd (grind arith)) (λ s. absurd (grind arith))
+wide = of-full 4 refl refl refl (λ m. Stands m 3) refl
 
 sized : (e : Event) (k : Kind) → kindOf (e .kind) ≡ Some k → FieldsFit k e → ValueFits k e → Sized (mapOf k) e
 sized e k known f v = record {
@@ -118,9 +118,8 @@ module _ (e : Event) (k : Kind) (known : kindOf (e .kind) ≡ Some k) (f : Field
       ∙ bytes-beyond 8 (e .value) (e .width) (i - 6) small (omega arith)
 
   beyond : Stands (mapOf k) 4 → e .value < 256 ^ e .width → Zeros (laid (mapOf k) e) (6 + getD (laid (mapOf k) e) 5 0) 14
-  beyond =
-      of-sized (λ m. Stands m 4 → e .value < 256 ^ e .width → Zeros (laid m e) (6 + getD (laid m e) 5 0) 14)
-      (λ s _. beyond-width s) (λ _ b. absurd (grind arith)) (λ _ b. absurd (grind arith)) (λ _ b. absurd (grind arith))
+  beyond s small =
+      of-full 4 refl refl refl (λ m. Sized m e → Zeros (laid m e) (6 + getD (laid m e) 5 0) 14) (λ z. beyond-width z small) k s (sized e k known f v)
 
   fits-within : FieldsFit k (within (mapOf k) e)
   fits-within = record {

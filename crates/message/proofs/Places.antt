@@ -1,6 +1,6 @@
 -- The fields of a message under the map of a kind, by their offsets.
 use mathlib.Core.Path.{_≡_, _∙_, refl, sym, ap}
-use mathlib.Core.Bool.{true}
+use mathlib.Core.Bool.{Bool, true, false}
 use mathlib.Core.List.{List}
 use Prim.Native.Nat.{ℕ, zero, suc, _+_, _*_, _%_, _<_, _≤_}
 use native.Mathlib.Omega.{arith}
@@ -96,5 +96,13 @@ module _ (b : List ℕ) (long : length b ≡ 16) where
       let bit : stands (getD b 0 0) 0 ≡ true = grind (arith, tells) in
       rw bit (one 1 (omega arith))
 
+-- what holds of the full map holds of the map of each kind that has a field of the full map alone
+pub of-full : (n : ℕ) → stands 7 n ≡ false → stands 3 n ≡ false → stands 1 n ≡ false → (P : ℕ → Type 0) → P 31 → (k : Kind) → Stands (mapOf k) n → P (mapOf k)
+of-full n placed threaded bare P full =
+    of-maps (λ m. Stands m n → P m) (λ _. full) (λ s. absurd (apart placed s)) (λ s. absurd (apart threaded s)) (λ s. absurd (apart bare s))
+  where
+    apart : {b : Bool} → b ≡ false → b ≡ true → ⊥
+    apart f t = grind arith
+
 pub value-offset : (k : Kind) → Stands (mapOf k) 4 → offset (mapOf k) 4 ≡ 6
-value-offset = of-maps (λ m. Stands m 4 → offset m 4 ≡ 6) (λ _. refl) (λ f. absurd (grind arith)) (λ f. absurd (grind arith)) (λ f. absurd (grind arith))
+value-offset = of-full 4 refl refl refl (λ m. offset m 4 ≡ 6) refl
