@@ -1,5 +1,7 @@
 // Reads a recording from standard input and follows the processor through it: each message in words with what it changed,
 // up to the end or the first fault, and then what the runs hold.
+#![tactic(auto)]
+
 mod changes;
 mod runs;
 

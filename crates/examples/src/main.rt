@@ -7,6 +7,8 @@
 //     log HEX                                        logs a message in the case: ok, or the fault
 //     play HEX                                       plays a recording in the case: how many were accepted, and the fault
 //     state                                          the state of the case
+#![tactic(auto)]
+
 mod state;
 mod table;
 

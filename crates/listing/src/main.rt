@@ -1,4 +1,6 @@
 // Reads a recording from standard input and prints each message in words, up to the end or the first fault.
+#![tactic(auto)]
+
 ghost use Rattle.std.specs.Prelude.{◌≤◌, length, IfOk};
 
 use message::{Kind, Recording};

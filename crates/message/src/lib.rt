@@ -1,4 +1,6 @@
 // Service messages: what sixteen bytes carry, how an event is packed, and the messages of a recording.
+#![tactic(auto)]
+
 mod events;
 mod faults;
 mod fields;

@@ -1,4 +1,6 @@
 // The processor: store buffers, runs with their cached stores and floors, flush sets and kept loads.
+#![tactic(auto)]
+
 mod accesses;
 mod buffers;
 mod departures;

@@ -1,4 +1,6 @@
 // Tables of fixed room.
+#![tactic(auto)]
+
 mod table;
 
 pub use table::Table;

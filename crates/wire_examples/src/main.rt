@@ -3,6 +3,8 @@
 //     read HEX                                       the event, or the fault and why
 //     pack KIND THREAD ADDRESS WIDTH VALUE LENGTH    the memory of that length after packing, or the fault and the memory
 //     parts LENGTH                                   the parts of a recording of that length: ordinal, first byte, length
+#![tactic(auto)]
+
 mod table;
 
 use message::{Event, FaultCode, Recording, pack, read};

@@ -1,4 +1,6 @@
 // Messages and faults in words, and how many messages of each kind there were.
+#![tactic(auto)]
+
 mod lines;
 mod tally;
 mod words;
