@@ -2,8 +2,8 @@ use Rattle.std.proofs.Common.{◌*◌, refl, arith}
 use Rattle.message.proofs.Walks.{part_rest}
 use Rattle.message.proofs.recordings.part_at.Goals as goal
 
-pub returns-then-recording-start-lt-MESSAGE-LEN : goal.returns-then-recording-start-lt-MESSAGE-LEN
-returns-then-recording-start-lt-MESSAGE-LEN c = record {
+pub returns-then-recording-start-lt-MESSAGE_LEN : goal.returns-then-recording-start-lt-MESSAGE_LEN
+returns-then-recording-start-lt-MESSAGE_LEN c = record {
   within = omega arith;
   block = refl;
   place = omega arith;
