@@ -4,12 +4,12 @@ use Rattle.processor.proofs.operations.hear.Goals as goal
 
 pub unreachable-requires : goal.unreachable-requires
 unreachable-requires c =
-    unknown c.args.message.now c.in-ok-event.event c.in-ok-event.ensures.reads (sym c.of.ensures ∙ c.in-default.is)
+    unknown c.args.message.now c.in_ok-event.event c.in_ok-event.ensures.reads (sym c.of.ensures ∙ c.in_default.is)
 
-pub operation-of-requires : goal.operation-of-requires
-operation-of-requires c =
-    in-range c.args.message.now c.in-ok-event.event c.in-ok-event.ensures.reads c.in-Some.kind (sym c.in-Some.ensures)
+pub operation_of-requires : goal.operation_of-requires
+operation_of-requires c =
+    in-range c.args.message.now c.in_ok-event.event c.in_ok-event.ensures.reads c.in-Some.kind (sym c.in-Some.ensures)
 
 pub returns : goal.returns
 returns c =
-    heard c.args.message.now c.in-ok-event.event c.in-ok-event.ensures.reads c.in-Some.kind (sym c.in-Some.ensures) c.operation-of.result c.operation-of.ensures
+    heard c.args.message.now c.in_ok-event.event c.in_ok-event.ensures.reads c.in-Some.kind (sym c.in-Some.ensures) c.operation_of.result c.operation_of.ensures

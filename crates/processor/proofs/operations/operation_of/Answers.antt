@@ -9,4 +9,4 @@ use Rattle.processor.proofs.operations.operation_of.Goals as goal
 pub returns-in-Store : goal.returns-in-Store
 returns-in-Store c =
     let e = c.args.event.now in
-    ap (λ (x : Access). Enter e.thread (Store x)) c.access-of.ensures ∙ ap (λ (k : Kind). operation k e) (sym c.in-Store.is)
+    ap (λ (x : Access). Enter e.thread (Store x)) c.access_of.ensures ∙ ap (λ (k : Kind). operation k e) (sym c.in-Store.is)

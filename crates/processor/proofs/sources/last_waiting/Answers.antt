@@ -5,12 +5,12 @@ use Rattle.processor.proofs.Fitting.{fit_at}
 use Rattle.processor.proofs.Last.{last_more}
 use Rattle.processor.proofs.sources.last_waiting.Goals as goal
 
-pub from-waiting-requires : goal.from-waiting-requires
-from-waiting-requires c = fit_at c.args.entries.now c.loop-candidate.candidate-index _ c.requires (omega arith)
+pub from_waiting-requires : goal.from_waiting-requires
+from_waiting-requires c = fit_at c.args.entries.now c.loop-candidate.candidate-index _ c.requires (omega arith)
 
 pub loop-candidate-preserved : goal.loop-candidate-preserved
 loop-candidate-preserved c =
-    last_more (from_waiting c.args.at) c.args.entries.now c.loop-candidate.candidate-index _ c.loop-candidate.last c.from-waiting.result c.or-last.result (omega arith) c.loop-candidate.invariant c.from-waiting.ensures c.or-last.ensures
+    last_more (from_waiting c.args.at) c.args.entries.now c.loop-candidate.candidate-index _ c.loop-candidate.last c.from_waiting.result c.or-last.result (omega arith) c.loop-candidate.invariant c.from_waiting.ensures c.or-last.ensures
 
 pub returns : goal.returns
 returns c =

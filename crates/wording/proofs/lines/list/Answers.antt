@@ -3,4 +3,4 @@ use Rattle.wording.proofs.lines.list.Goals as goal
 
 pub unreachable-requires : goal.unreachable-requires
 unreachable-requires c =
-    read_known c.args.message.now c.in-Ok.event c.of.result c.in-Ok.ensures.reads c.of.ensures c.in-default.is
+    read_known c.args.message.now c.in-Ok.event c.of.result c.in-Ok.ensures.reads c.of.ensures c.in_default.is

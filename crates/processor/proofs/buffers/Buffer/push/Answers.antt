@@ -3,8 +3,8 @@ use Rattle.tables.proofs.Rooms.{has_room, one_more}
 use Rattle.processor.proofs.Fitting.{fit_set}
 use Rattle.processor.proofs.buffers.Buffer.push.Goals as goal
 
-pub invariant-of-self : goal.invariant-of-self
-invariant-of-self c =
+pub invariant_of-self : goal.invariant_of-self
+invariant_of-self c =
     let b = c.args.self.now in
     ((omega arith, length-set b.entries b.len c.args.entry ∙ b.room.1), (fit_set b.entries b.len c.args.entry b.fitting c.requires, tt))
 

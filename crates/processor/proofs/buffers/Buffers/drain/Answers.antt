@@ -19,4 +19,4 @@ put_back rows t d b (Some e) inside h =
 
 pub returns : goal.returns
 returns c =
-    put_back c.args.self.now.rows c.args.thread c.index-self-thread.result c.take-oldest.new.self c.take-oldest.result (omega arith) c.take-oldest.ensures
+    put_back c.args.self.now.rows c.args.thread c.index-self-thread.result c.take_oldest.new.self c.take_oldest.result (omega arith) c.take_oldest.ensures

@@ -10,6 +10,6 @@ returns c =
     let any = c.index-self-thread.result in
     let row = get_or rows c.args.thread any in
     record {
-      entries = c.as-slice.ensures ∙ at_row waiting rows c.args.thread any [] (omega arith);
-      fitting = subst AllFit (sym c.as-slice.ensures) (fit_take row.entries row.len row.fitting);
+      entries = c.as_slice.ensures ∙ at_row waiting rows c.args.thread any [] (omega arith);
+      fitting = subst AllFit (sym c.as_slice.ensures) (fit_take row.entries row.len row.fitting);
     }

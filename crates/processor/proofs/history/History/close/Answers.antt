@@ -1,5 +1,5 @@
 use Rattle.processor.proofs.HistorySteps.{closed_facts}
 use Rattle.processor.proofs.history.History.close.Goals as goal
 
-pub invariant-of-self : goal.invariant-of-self
-invariant-of-self c = closed_facts c.args.self.now c.requires
+pub invariant_of-self : goal.invariant_of-self
+invariant_of-self c = closed_facts c.args.self.now c.requires

@@ -4,13 +4,13 @@ use Rattle.processor.proofs.HistoryLaws.{count_few}
 use Rattle.processor.proofs.HistorySteps.{left_facts, pushed_is}
 use Rattle.processor.proofs.history.History.leave.Goals as goal
 
-pub overflow-add-moment : goal.overflow-add-moment
-overflow-add-moment c =
+pub overflow_add-moment : goal.overflow_add-moment
+overflow_add-moment c =
     let h = c.args.self.now in
     omega (arith, h.counted, count_few h.run (listed h.left), c.requires.room)
 
-pub invariant-of-self : goal.invariant-of-self
-invariant-of-self c =
+pub invariant_of-self : goal.invariant_of-self
+invariant_of-self c =
     let h = c.args.self.now in
     let E = listed c.push-has-room.new.self in
     left_facts h c.args.thread c.args.entry E c.requires.thread c.requires.entry

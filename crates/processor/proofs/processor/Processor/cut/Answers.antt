@@ -5,9 +5,9 @@ use Rattle.processor.specs.Waiting.{waits}
 use Rattle.processor.proofs.MachineFacts.{Facts, facts_of, cut-facts, cut_is, few_wait}
 use Rattle.processor.proofs.processor.Processor.cut.Goals as goal
 
-pub invariant-of-self : goal.invariant-of-self
-invariant-of-self c =
+pub invariant_of-self : goal.invariant_of-self
+invariant_of-self c =
     let p = c.args.self.now in
     let h = c.close.new.self in
-    subst Facts (sym (cut_is (machine_of p) h.run (listed h.left) (waits c.clear-all.new.self) c.close.ensures.run c.close.ensures.left c.clear-all.ensures))
+    subst Facts (sym (cut_is (machine_of p) h.run (listed h.left) (waits c.clear_all.new.self) c.close.ensures.run c.close.ensures.left c.clear_all.ensures))
     (cut-facts (machine_of p) (facts_of p) (few_wait p.buffers p.four))

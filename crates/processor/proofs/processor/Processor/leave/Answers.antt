@@ -8,8 +8,8 @@ use Rattle.processor.proofs.processor.Processor.leave.Goals as goal
 pub leave-requires : goal.leave-requires
 leave-requires c = record { thread = c.requires.thread; entry = c.in-Some.ensures.0; room = c.requires.room }
 
-pub invariant-of-self : goal.invariant-of-self
-invariant-of-self c =
+pub invariant_of-self : goal.invariant_of-self
+invariant_of-self c =
     let p = c.args.self.now in
     let t : ℕ = c.args.thread in
     let d = c.in-Some.ensures in
