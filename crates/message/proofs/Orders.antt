@@ -5,7 +5,7 @@ use Rattle.std.proofs.lemmas.Bool.Decides.{nat_tests}
 use Rattle.message.specs.Checks.{MapSound, Head, event_at, Decodes, NotDecoded}
 use Rattle.message.specs.Faults.{message_code}
 use Rattle.message.specs.Fields.{FieldRefused}
-use Rattle.message.specs.Format.{stands, Stands, offset, fields_end, map_at, field, Zeros, FirstNonzero}
+use Rattle.message.specs.Format.{stands, Stands, offset, fields_end, map_at, Zeros, FirstNonzero}
 use Rattle.message.specs.Kinds.{kind_of, map_of, map_for}
 use Rattle.message.specs.Reading.{event_of, MapRefused, Refused}
 use Rattle.message.specs.Refusals.{Comes, NoneHolds}

@@ -2,7 +2,7 @@
 use Rattle.std.proofs.Common.{◌≡◌, ℕ, ◌+◌, ◌-◌, ◌<◌, ◌≤◌, Bool, true, false, cond, List, ◌∷◌, ◌++◌, length, get_or, take, drop, replicate, sym, refl, ap, ◌∙◌, subst, inl, inr, append_assoc, arith, drop-cons}
 use Rattle.std.proofs.lemmas.List.{ext_get_or, get_or_past, get_or-take, get_or-drop, get_or-replicate, length-drop, length-take, length-replicate, take-append-drop, drop-drop}
 use Rattle.std.proofs.lemmas.Bool.{cases_lt}
-use Rattle.message.specs.Format.{stands, room, offset, fields_end, little, bytes_of, field, Zeros}
+use Rattle.message.specs.Format.{stands, room, offset, fields_end, little, bytes_of, Zeros}
 use Rattle.message.specs.Packing.{within, laid}
 use Rattle.message.proofs.Numbers.{Bytes, bytes_of-little}
 use Rattle.message.proofs.Places.{field_under, event_under, same_event}

@@ -49,7 +49,9 @@ fn first_nonzero(tail: &[u8]) -> Option<usize>
 
 // The offset of the first byte from `from` to below `end` that is not 0.
 fn first_nonzero_between(message: &[u8], from: usize, end: usize) -> Option<u8>
-    requires { (length message.now ≡ 16) × ((from ≤ end) × (end ≤ 16)) }
+    requires whole { length message.now ≡ 16 }
+    requires ordered { from ≤ end }
+    requires within { end ≤ 16 }
     ensures { MatchOption result (Zeros message.now from end) (λ i. FirstNonzero message.now from end i) }
 {
     match first_nonzero(&message[from..end]) {

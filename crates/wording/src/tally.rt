@@ -16,7 +16,8 @@ pub struct Tally {
 }
 
 fn place(kind: Kind) -> usize
-    ensures { (result ≡ number_of kind - 1) × (result < 8) }
+    ensures place { result ≡ number_of kind - 1 }
+    ensures within { result < 8 }
 {
     kind.number() as usize - 1
 }
@@ -30,7 +31,8 @@ fn raised(count: u64) -> u64
 
 impl Tally {
     pub fn new() -> Tally
-        ensures { (result.messages ≡ 0) × (((k : Kind) → count_of result k ≡ 0)) }
+        ensures messages { result.messages ≡ 0 }
+        ensures counts { (k : Kind) → count_of result k ≡ 0 }
     {
         Tally {
             messages: 0,

@@ -7,5 +7,5 @@ pub returns : goal.returns
 returns c = record {
   messages = search rules;
   more = search rules;
-  others = λ j ne. let apart : number_of j - 1 ≢ c.place-i.result = λ e. places_apart j c.args.kind ne (e ∙ c.place-i.ensures.0) in rw get_or-set_other;
+  others = λ j ne. let apart : number_of j - 1 ≢ c.place-i.result = λ e. places_apart j c.args.kind ne (e ∙ c.place-i.ensures.place) in rw get_or-set_other;
 }
