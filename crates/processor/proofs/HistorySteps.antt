@@ -12,10 +12,10 @@ use Rattle.processor.specs.declared.history.History.{History}
 use Rattle.processor.proofs.HistoryLaws.{Recorded, count-push, none_yet, recorded-push, recorded_later}
 
 abbrev pub Facts : ℕ → ℕ → List Departure → Type 0
-Facts run n D = (run ≤ 4) × ((n ≡ count run D) × (Placed run D × (Fitting D × (InTurn D × (Dated D × Unit {0})))))
+Facts run n D = record { within : run ≤ 4; counted : n ≡ count run D; placed : Placed run D; fitting : Fitting D; in_turn : InTurn D; dated : Dated D }
 
 pub facts : (run n : ℕ) (D : List Departure) → run ≤ 4 → n ≡ count run D → Recorded run D → Facts run n D
-facts run n D l e h = (l, (e, (h.placed, (h.fitting, (h.in_turn, (h.dated, tt))))))
+facts run n D l e h = record { within = l; counted = e; placed = h.placed; fitting = h.fitting; in_turn = h.in_turn; dated = h.dated }
 
 pub recorded_of : (h : History) → Recorded h.run (listed h.left)
 recorded_of h = record { placed = h.placed; fitting = h.fitting; in_turn = h.in_turn; dated = h.dated }

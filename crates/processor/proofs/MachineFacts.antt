@@ -18,17 +18,17 @@ use Rattle.processor.proofs.Bounds.{bound_leaves, bound-entered, bound-kept, bou
 use Rattle.processor.proofs.Replaced.{all_push}
 
 abbrev pub Facts : Machine → Type 0
-Facts m = Loaded m × (Counted m × (Four m × Unit {0}))
+Facts m = record { loaded : Loaded m; counted : Counted m; four : Four m }
 
 pub facts_of : (p : Processor) → Facts (machine_of p)
-facts_of p = (p.loaded, (p.counted, (p.four, tt)))
+facts_of p = record { loaded = p.loaded; counted = p.counted; four = p.four }
 
 -- ── an entry acts, and the oldest leaves ──
 pub acted-facts : (m : Machine) → Facts m → (t : ℕ) (e : Entry) → Facts (acted t e m)
-acted-facts m f t e = (f.0, (omega (arith, f.1.0, length_push m.left (departure m.run m.left t e)), f.1.1))
+acted-facts m f t e = record { loaded = f.loaded; counted = omega (arith, f.counted, length_push m.left (departure m.run m.left t e)); four = f.four }
 
 pub leave_facts : (m : Machine) → Facts m → (t : ℕ) (e : Entry) (es : List Entry) → row m t ≡ e ∷ es → Facts (acted t e (with_row t es m))
-leave_facts m f t e es w = (f.0, (omega (arith, bound_leaves m t e es w, f.1.0), (length-set m.waits t es ∙ f.1.1.0, tt)))
+leave_facts m f t e es w = record { loaded = f.loaded; counted = omega (arith, bound_leaves m t e es w, f.counted); four = length-set m.waits t es ∙ f.four }
 
 -- as the code's tables find it
 pub acted_is : (m : Machine) (t : ℕ) (e : Entry) (r : ℕ) (D : List Departure) → r ≡ m.run → D ≡ (acted t e m).left → machine_with r D m.waits m.loads m.accepted ≡ acted t e m
@@ -43,24 +43,28 @@ drained_is m t e es w = sym (ap (λ (l : List Entry). drained_from l t m) w)
 
 -- ── the opened case ──
 pub facts-opened : Facts opened
-facts-opened = (loaded, (omega arith, (refl, tt)))
+facts-opened = record { loaded = none_kept; counted = omega arith; four = refl }
   where
-    loaded : Loaded opened
-    loaded i = subst (λ l. (l.run ≤ 0) × InLine l.access) (sym (get_or_past {X = Load} [] i no_load (omega arith))) (omega arith, (omega arith, omega arith, omega arith))
+    none_kept : Loaded opened
+    none_kept i = subst (λ l. (l.run ≤ 0) × InLine l.access) (sym (get_or_past {X = Load} [] i no_load (omega arith))) (omega arith, (omega arith, omega arith, omega arith))
 
 pub opened_is : (r : ℕ) (D : List Departure) (W : List (List Entry)) (L : List Load) → r ≡ 0 → D ≡ [] → W ≡ opened.waits → L ≡ [] → machine_with r D W L 0 ≡ opened
 opened_is r D W L p q s z = rw (p, q, s, z)
 
 -- ── an entry enters, a load is kept ──
 pub entered-facts : (m : Machine) → Facts m → (t : ℕ) (e : Entry) → t < 4 → Facts (entered t e m)
-entered-facts m f t e l = (f.0, (omega (arith, f.1.0, bound-entered t e m (omega (arith, f.1.1.0))), (length-set m.waits t (row m t ++ e ∷ []) ∙ f.1.1.0, tt)))
+entered-facts m f t e l = record { loaded = f.loaded; counted = omega (arith, f.counted, bound-entered t e m (omega (arith, f.four))); four = length-set m.waits t (row m t ++ e ∷ []) ∙ f.four }
 
 pub kept-facts : (m : Machine) → Facts m → (l : Load) → l.run ≤ m.run → InLine l.access → Facts (kept l m)
-kept-facts m f l p q = (all_push m.loads l no_load (λ x. (x.run ≤ m.run) × InLine x.access) f.0 (p, q) (omega arith, (omega arith, omega arith, omega arith)), (omega (arith, f.1.0, bound-kept l m), f.1.1))
+kept-facts m f l p q = record {
+  loaded = all_push m.loads l no_load (λ x. (x.run ≤ m.run) × InLine x.access) f.loaded (p, q) (omega arith, (omega arith, omega arith, omega arith));
+  counted = omega (arith, f.counted, bound-kept l m);
+  four = f.four;
+}
 
 -- ── a cut ──
 pub cut-facts : (m : Machine) → Facts m → total m.waits ≤ 32 → Facts (cut m)
-cut-facts m f w = ((λ i. (omega (arith, (f.0 i).0), (f.0 i).1)), (omega (arith, bound-cut m w, f.1.0), (refl, tt)))
+cut-facts m f w = record { loaded = λ i. (omega (arith, (f.loaded i).0), (f.loaded i).1); counted = omega (arith, bound-cut m w, f.counted); four = refl }
 
 pub cut_is : (m : Machine) (r : ℕ) (D : List Departure) (W : List (List Entry)) → r ≡ m.run + 1 → D ≡ m.left → W ≡ replicate 4 [] → machine_with r D W m.loads m.accepted ≡ cut m
 cut_is m r D W p q s = rw (p, q, s)

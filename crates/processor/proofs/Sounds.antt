@@ -39,7 +39,7 @@ use Rattle.processor.proofs.Replaced.{at_set}
 use Rattle.processor.proofs.Steps.{bound-step, accepted_step}
 
 facts : (m : Machine) → Sound m → Facts m
-facts m s = (s.loaded, (s.counted, (s.four, tt)))
+facts m s = record { loaded = s.loaded; counted = s.counted; four = s.four }
 
 recorded : (m : Machine) → Sound m → Recorded m.run m.left
 recorded m s = record { placed = s.placed; fitting = s.fitting; in_turn = s.in_turn; dated = s.dated }
@@ -66,15 +66,15 @@ sound_by m p = record {
   largest = λ r n. largest-floor r n m.left p.recorded.dated;
   floored = λ r n. floor_within r n m.left p.recorded.dated;
   marked = λ t n. mark_within m.run t n m.left p.recorded.dated;
-  four = p.facts.1.1.0;
+  four = p.facts.four;
   waiting = p.waiting;
-  loaded = p.facts.0;
+  loaded = p.facts.loaded;
   cuts = p.cuts;
   moments = p.moments;
   rows = p.rows;
   loads = p.loads;
-  counted = p.facts.1.0;
-  few = omega (arith, p.facts.1.0, p.cuts, p.moments, p.loads, few_entries m p.facts.1.1.0 p.rows);
+  counted = p.facts.counted;
+  few = omega (arith, p.facts.counted, p.cuts, p.moments, p.loads, few_entries m p.facts.four p.rows);
 }
 
 -- ── rows ──
@@ -185,7 +185,7 @@ sound_counted o m i none s =
     let same = accepted_step o m in
     sound_by (counted (step o m)) (record {
       recorded = recorded (step o m) k;
-      facts = (k.loaded, (omega arith, (k.four, tt)));
+      facts = record { loaded = k.loaded; counted = omega arith; four = k.four };
       waiting = k.waiting;
       cuts = k.cuts;
       moments = k.moments;

@@ -6,7 +6,7 @@ use Rattle.processor.proofs.buffers.Buffer.push.Goals as goal
 pub invariant_of-self : goal.invariant_of-self
 invariant_of-self c =
     let b = c.args.self.now in
-    ((omega arith, length-set b.entries b.len c.args.entry ∙ b.room.1), (fit_set b.entries b.len c.args.entry b.fitting c.requires, tt))
+    record { room = (omega arith, length-set b.entries b.len c.args.entry ∙ b.room.1); fitting = fit_set b.entries b.len c.args.entry b.fitting c.requires }
 
 pub returns : goal.returns
 returns c =

@@ -5,7 +5,7 @@ use Rattle.processor.proofs.buffers.Buffer.take_oldest.Goals as goal
 pub invariant_of-self : goal.invariant_of-self
 invariant_of-self c =
     let b = c.args.self.now in
-    ((omega (arith, b.room), omega (arith, b.room)), (fit_rotated b.entries c.rotate_left.new.self b.fitting c.rotate_left.ensures.after, tt))
+    record { room = (omega (arith, b.room), omega (arith, b.room)); fitting = fit_rotated b.entries c.rotate_left.new.self b.fitting c.rotate_left.ensures.after }
 
 pub returns : goal.returns
 returns c =

@@ -12,14 +12,14 @@ overflow_add-moment c =
 pub invariant_of-self : goal.invariant_of-self
 invariant_of-self c =
     let h = c.args.self.now in
-    let E = listed c.push-has-room.new.self in
+    let E = listed c.push-has_room.new.self in
     left_facts h c.args.thread c.args.entry E c.requires.thread c.requires.entry
-    (pushed_is h c.args.thread c.args.entry E c.push-has-room.result c.push-has-room.ensures.room c.push-has-room.ensures.items c.requires.room)
+    (pushed_is h c.args.thread c.args.entry E c.push-has_room.result c.push-has_room.ensures.room c.push-has_room.ensures.items c.requires.room)
 
 pub returns : goal.returns
 returns c =
     let h = c.args.self.now in
     record {
       run = refl;
-      left = pushed_is h c.args.thread c.args.entry (listed c.push-has-room.new.self) c.push-has-room.result c.push-has-room.ensures.room c.push-has-room.ensures.items c.requires.room;
+      left = pushed_is h c.args.thread c.args.entry (listed c.push-has_room.new.self) c.push-has_room.result c.push-has_room.ensures.room c.push-has_room.ensures.items c.requires.room;
     }

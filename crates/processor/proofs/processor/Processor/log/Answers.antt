@@ -10,4 +10,4 @@ pub invariant_of-self : goal.invariant_of-self
 invariant_of-self c =
     let f = facts_of c.perform.new.self in
     let room = room_to_count c.args.self.now c.perform.new.self c.in_ok-operation.operation c.in_ok-operation.ensures.in_range c.in_ok-perform.ensures.0 c.in_ok-perform.ensures.1 in
-    (f.0, (omega arith, f.1.1))
+    record { loaded = f.loaded; counted = omega arith; four = f.four }
