@@ -3,7 +3,7 @@ ghost use Rattle.processor.specs.MachineView.{machine_of};
 ghost use Rattle.case_wording.specs.Lines.{Listed};
 
 use crate::words::CaseReason;
-use message::{Event, FaultCode, Kind, read};
+use message::{Event, FaultCode, Kind};
 use processor::{CaseFault, Processor};
 use std::fmt;
 use wording::{Tally, Told};
@@ -30,17 +30,17 @@ pub fn list(message: &[u8], processor: &mut Processor, tally: &mut Tally) -> Lin
     if let Err(fault) = processor.log(message) {
         return Line::Refusal { ordinal, fault };
     }
-    let Ok(event) = read(message) else {
-        unreachable()
-    };
-    let Some(kind) = Kind::of(event.kind) else {
-        unreachable()
-    };
-    tally.note(kind);
-    Line::Message {
-        ordinal,
-        kind,
-        event,
+    match wording::list(message, tally) {
+        wording::Line::Message {
+            ordinal,
+            kind,
+            event,
+        } => Line::Message {
+            ordinal,
+            kind,
+            event,
+        },
+        wording::Line::Refusal { .. } => unreachable(),
     }
 }
 
