@@ -1,6 +1,6 @@
 -- No floor and no mark passes the count of its run.
 use Rattle.std.proofs.Common.{◌≡◌, ℕ, zero, suc, ◌+◌, ◌<◌, ◌≤◌, max, Bool, true, false, cond, ◌&&◌, eqb, List, [], ◌∷◌, ◌++◌, reverse, length, take, sym, refl, ap, ◌∙◌, subst, append-nil, add-one, arith}
-use Rattle.std.specs.List.{AllByRecursion as All}
+use Rattle.std.specs.List.{AllByRecursion}
 use Rattle.std.proofs.lemmas.List.Elements.{filter_more}
 use Rattle.std.proofs.ByRecursion.{All-append, All-weaker}
 use Rattle.std.proofs.lemmas.List.{reverse-append, length_push, take_all}
@@ -13,7 +13,7 @@ use Rattle.processor.specs.declared.entries.Entry.TheVariants.{Store, StrongFlus
 
 -- ── where no moment passes k ──
 abbrev pub Early : ℕ → List Departure → Type 0
-Early k D = All (λ (d : Departure). d.moment ≤ k) D
+Early k D = AllByRecursion (λ (d : Departure). d.moment ≤ k) D
 
 last_by_early : (k t : ℕ) (test : Entry → Bool) (older : List Departure) → Early k older → last_by t test older ≤ k
 last_by_early k t test [] h = omega arith

@@ -1,6 +1,6 @@
 -- Which store of the present run gives a byte.
 use Rattle.std.specs.Prelude.{◌≡◌, ℕ, ◌+◌, cond, List, [], ◌∷◌, ◌++◌, map, Some, None, Option, ◌==◌, nat_lt}
-use Rattle.std.specs.List.{range_with_len, AllByRecursion as All}
+use Rattle.std.specs.List.{range_with_len, AllByRecursion}
 use Rattle.std.specs.Option.{option_map, option_or}
 use Rattle.processor.specs.Machine.{Machine, row}
 use Rattle.processor.specs.Memory.{byte_at}
@@ -19,8 +19,8 @@ last_of f (x ∷ xs) = option_or (last_of f xs) (f x)
 
 -- the same as a law: nothing where no element gives anything; else what some element gives, behind which none gives anything
 abbrev pub Last : {A B : Type 0} → (A → Option B) → List A → Option B → Type 0
-Last f xs None = All (λ x. f x ≡ None) xs
-Last {A} f xs (Some y) = (before : List A) × (x : A) × (after : List A) × (xs ≡ before ++ x ∷ after) × (f x ≡ Some y) × All (λ z. f z ≡ None) after
+Last f xs None = AllByRecursion (λ x. f x ≡ None) xs
+Last {A} f xs (Some y) = (before : List A) × (x : A) × (after : List A) × (xs ≡ before ++ x ∷ after) × (f x ≡ Some y) × AllByRecursion (λ z. f z ≡ None) after
 
 -- what a waiting entry gives for the byte at b
 abbrev pub from_waiting : ℕ → Entry → Option Source
