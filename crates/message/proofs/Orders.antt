@@ -17,7 +17,7 @@ use Rattle.message.specs.declared.faults.MessageFault.TheVariants.{Length, Map, 
 use Rattle.message.specs.declared.kinds.Kind as kinds
 use Rattle.message.specs.declared.kinds.Kind.TheVariants.{Store}
 use Rattle.message.proofs.FieldOrders.{map_known, FieldsPassed, fields_before, field_holds, field_late, field_most}
-use Rattle.message.proofs.Places.{event-places, kind-place, value_offset, of_maps}
+use Rattle.message.proofs.Places.{event_places, kind_place, value_offset, of_maps}
 
 high_bit : (m n : ℕ) → m < 32 → 5 ≤ n → n ≤ 7 → Stands m n → ⊥
 high_bit m n low five seven s =
@@ -62,14 +62,14 @@ module _ (b : List ℕ) (k : kinds.Kind) where
   -- a field's condition, by the offsets
   fields_at : (n : ℕ) → Passed b k n → 5 < n → (f : FieldFault) → FieldRefused (map_at b) (event_of b) f → FieldRefused (map_of k) (event_at b) f
   fields_at n p l f h =
-      let e : event_of b ≡ event_at b = event-places b p.long k (p.agrees (omega arith)) (p.filler l) in
+      let e : event_of b ≡ event_at b = event_places b p.long k (p.agrees (omega arith)) (p.filler l) in
       let g : FieldRefused (map_of k) (event_of b) f = subst (λ (m : ℕ). FieldRefused m (event_of b) f) (p.agrees (omega arith)) h in
       subst (λ (x : Event). FieldRefused (map_of k) x f) e g
 
   -- the condition on the value bytes beyond the width, by the offsets
-  value-at : (n : ℕ) → Passed b k n → 5 < n → (i : ℕ) → Refused b (Value i) → Stands (map_of k) 4 × FirstNonzero b (6 + get_or b 5 0) 14 i
-  value-at n p l i h =
-      let e : event_of b ≡ event_at b = event-places b p.long k (p.agrees (omega arith)) (p.filler l) in
+  value_beyond : (n : ℕ) → Passed b k n → 5 < n → (i : ℕ) → Refused b (Value i) → Stands (map_of k) 4 × FirstNonzero b (6 + get_or b 5 0) 14 i
+  value_beyond n p l i h =
+      let e : event_of b ≡ event_at b = event_places b p.long k (p.agrees (omega arith)) (p.filler l) in
       let g : Beyond (map_of k) (event_of b) i = subst (λ (m : ℕ). Beyond m (event_of b) i) (p.agrees (omega arith)) h in
       let f : Beyond (map_of k) (event_at b) i = subst (λ (x : Event). Beyond (map_of k) x i) e g in
       (f.0, subst (λ (o : ℕ). FirstNonzero b (o + get_or b 5 0) (o + 8) i) (value_offset k f.0) f.1)
@@ -78,18 +78,18 @@ module _ (b : List ℕ) (k : kinds.Kind) where
   none_before n p Length l h = h p.long
   none_before n p Map l h = sound_map (get_or b 0 0) (p.map l) h
   none_before n p Kind l h =
-      let e = kind-place b p.long (p.map (omega arith)).0 in
+      let e = kind_place b p.long (p.map (omega arith)).0 in
       let f = p.kind l in
       let z : ◌≡◌ {A = ℕ} 0 1 = cc in
       omega arith
   none_before n p MapOfKind l h =
-      let e = kind-place b p.long (p.map (omega arith)).0 in
+      let e = kind_place b p.long (p.map (omega arith)).0 in
       h (ap map_for e ∙ map_known (get_or b 1 0) k (p.kind (omega arith)) ∙ sym (p.agrees l))
   none_before n p (Filler i) l h =
       h.nonzero (p.filler l i (subst (λ (m : ℕ). fields_end m ≤ i) (p.agrees (omega arith)) h.low) h.high)
   none_before n p (Field f) l h = fields_before k (event_at b) n p.fields f l (fields_at n p (omega (arith, field_late f)) f h)
   none_before n p (Value i) l h =
-      let g = value-at n p (omega arith) i h in
+      let g = value_beyond n p (omega arith) i h in
       g.1.nonzero (p.beyond l g.0 i g.1.low g.1.high)
 
 sound_of : (k : kinds.Kind) → MapSound (map_of k)
@@ -124,7 +124,7 @@ module _ (b : List ℕ) (long : length b ≡ 16) where
   -- the condition of a field or of the value, from the offsets
   module _ (k : kinds.Kind) (head : Head b k) (filler : Zeros b (fields_end (map_of k)) 16) where
     same : event_at b ≡ event_of b
-    same = sym (event-places b long k head.1 filler)
+    same = sym (event_places b long k head.1 filler)
 
     field-refused : (f : FieldFault) → FieldRefused (map_of k) (event_at b) f → FieldRefused (map_at b) (event_of b) f
     field-refused f h =
@@ -141,8 +141,8 @@ module _ (b : List ℕ) (long : length b ≡ 16) where
     holds : (f : MessageFault) → NotDecoded b f → Refused b f
     holds Length r = absurd r
     holds Map r = refused_map (get_or b 0 0) byte r
-    holds Kind r = ap kind_of (kind-place b long r.0.0) ∙ r.1
-    holds MapOfKind r = λ e. r.3 (sym e ∙ ap map_for (kind-place b long r.1.0) ∙ map_known (get_or b 1 0) r.0 r.2)
+    holds Kind r = ap kind_of (kind_place b long r.0.0) ∙ r.1
+    holds MapOfKind r = λ e. r.3 (sym e ∙ ap map_for (kind_place b long r.1.0) ∙ map_known (get_or b 1 0) r.0 r.2)
     holds (Filler i) r = subst (λ (m : ℕ). FirstNonzero b (fields_end m) 16 i) (sym r.1.1) r.2
     holds (Field f) r = field-refused r.0 r.1.0 r.1.1 f (field_holds r.0 (event_at b) f r.2)
     holds (Value i) r = value-refused r.0 r.1.0 r.1.1 i r.3 r.4
@@ -159,11 +159,11 @@ module _ (b : List ℕ) (long : length b ≡ 16) where
   below (Field f) = omega (arith, field_most f)
   below (Value i) = lit< tt
 
-  pub decoded-passes : (k : kinds.Kind) → Decodes b k → Passed b k 11
-  decoded-passes k d = let s = head_sound b k d.head in search rules
+  pub decoded_passes : (k : kinds.Kind) → Decodes b k → Passed b k 11
+  decoded_passes k d = let s = head_sound b k d.head in search rules
 
-  pub none-holds : (k : kinds.Kind) → Decodes b k → NoneHolds (Refused b)
-  none-holds k d f = none_before b k 11 (decoded-passes k d) f (below f)
+  pub none_holds : (k : kinds.Kind) → Decodes b k → NoneHolds (Refused b)
+  none_holds k d f = none_before b k 11 (decoded_passes k d) f (below f)
 
-  pub event-same : (k : kinds.Kind) → Decodes b k → event_at b ≡ event_of b
-  event-same k d = same k d.head d.filler
+  pub event_same : (k : kinds.Kind) → Decodes b k → event_at b ≡ event_of b
+  event_same k d = same k d.head d.filler

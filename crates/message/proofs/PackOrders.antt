@@ -64,14 +64,14 @@ pub pack_comes : (e : Event) (room : ℕ) (f : PackFault) → NotEncoded e f →
 pack_comes e room f r = record { holds = holds e room f r; first = none_before e room (kind_in e f r) (pack_code f).number (most f) (passed e f r) }
 
 module _ (e : Event) (room : ℕ) (k : kinds.Kind) (kind : kind_of e.kind ≡ Some k) (fields : FieldsFit k e) (value : ValueFits k e) where
-  before-short : Passed e k 18
-  before-short = search rules
+  before_short : Passed e k 18
+  before_short = search rules
 
-  pub short-comes : room < 16 → Comes (λ g. (pack_code g).number) (PackRefused e room) Short
-  short-comes h = record { holds = h; first = none_before e room k 18 (lit≤ tt) before-short }
+  pub short_comes : room < 16 → Comes (λ g. (pack_code g).number) (PackRefused e room) Short
+  short_comes h = record { holds = h; first = none_before e room k 18 (lit≤ tt) before_short }
 
-  pub none-packs : 16 ≤ room → NoneHolds (PackRefused e room)
-  none-packs h Kind r = none_before e room k 18 (lit≤ tt) before-short Kind (lit< tt) r
-  none-packs h (Field f) r = none_before e room k 18 (lit≤ tt) before-short (Field f) (omega (arith, field_most f)) r
-  none-packs h Value r = none_before e room k 18 (lit≤ tt) before-short Value (lit< tt) r
-  none-packs h Short r = omega arith
+  pub none_packs : 16 ≤ room → NoneHolds (PackRefused e room)
+  none_packs h Kind r = none_before e room k 18 (lit≤ tt) before_short Kind (lit< tt) r
+  none_packs h (Field f) r = none_before e room k 18 (lit≤ tt) before_short (Field f) (omega (arith, field_most f)) r
+  none_packs h Value r = none_before e room k 18 (lit≤ tt) before_short Value (lit< tt) r
+  none_packs h Short r = omega arith

@@ -11,7 +11,7 @@ use Rattle.message.specs.Packing.{within, laid}
 use Rattle.message.specs.declared.events.Event.{Event}
 use Rattle.message.specs.declared.kinds.Kind.{Kind}
 use Rattle.message.proofs.Numbers.{little-bytes_of, length-bytes_of, bytes_beyond}
-use Rattle.message.proofs.Places.{of_maps, of_full, event_under, same_event, event-places}
+use Rattle.message.proofs.Places.{of_maps, of_full, event_under, same_event, event_places}
 
 -- each field that a map has takes no more bytes than the message has for it
 record Sized (m : ℕ) (e : Event) : Type 0 where
@@ -59,19 +59,19 @@ module _ (e : Event) (k : Kind) (known : kind_of e.kind ≡ Some k) (f : FieldsF
   byte x h = omega arith
 
   -- what holds of each of the four maps where the fields have their sizes
-  of-sized : (P : ℕ → Type 0) → (Sized 31 e → P 31) → (Sized 7 e → P 7) → (Sized 3 e → P 3) → (Sized 1 e → P 1) → P (map_of k)
-  of-sized P full placed threaded bare = of_maps (λ m. Sized m e → P m) full placed threaded bare k (sized e k known f v)
+  of_sized : (P : ℕ → Type 0) → (Sized 31 e → P 31) → (Sized 7 e → P 7) → (Sized 3 e → P 3) → (Sized 1 e → P 1) → P (map_of k)
+  of_sized P full placed threaded bare = of_maps (λ m. Sized m e → P m) full placed threaded bare k (sized e k known f v)
 
   -- the two ways to write a message
-  pub laid-places : bytes_at (map_of k) (within (map_of k) e) ≡ laid (map_of k) e
-  laid-places =
+  pub laid_places : bytes_at (map_of k) (within (map_of k) e) ≡ laid (map_of k) e
+  laid_places =
       let v2 = div-div-eq-div-mul e.value 256 256 in
       let v3 = div-div-eq-div-mul e.value 65536 256 in
       let v4 = div-div-eq-div-mul e.value 16777216 256 in
       let v5 = div-div-eq-div-mul e.value 4294967296 256 in
       let v6 = div-div-eq-div-mul e.value 1099511627776 256 in
       let v7 = div-div-eq-div-mul e.value 281474976710656 256 in
-      of-sized (λ m. bytes_at m (within m e) ≡ laid m e)
+      of_sized (λ m. bytes_at m (within m e) ≡ laid m e)
       (λ s. cc (byte e.kind s.kind, byte e.thread (s.thread refl), byte e.width (s.width refl)))
       (λ s. cc (byte e.kind s.kind, byte e.thread (s.thread refl)))
       (λ s. cc (byte e.kind s.kind, byte e.thread (s.thread refl)))
@@ -83,7 +83,7 @@ module _ (e : Event) (k : Kind) (known : kind_of e.kind ≡ Some k) (f : FieldsF
       let kind = little-bytes_of 1 e.kind in
       let thread = little-bytes_of 1 e.thread in
       let address = little-bytes_of 2 e.address in
-      of-sized (λ m. event_under m (laid m e) ≡ within m e)
+      of_sized (λ m. event_under m (laid m e) ≡ within m e)
       (λ s. same_event (kind s.kind) (thread (s.thread refl)) (address (s.address refl)) (little-bytes_of 1 e.width (s.width refl)) (little-bytes_of 8 e.value (s.value refl)))
       (λ s. same_event (kind s.kind) (thread (s.thread refl)) (address (s.address refl)) refl refl)
       (λ s. same_event (kind s.kind) (thread (s.thread refl)) refl refl refl)
@@ -97,13 +97,13 @@ module _ (e : Event) (k : Kind) (known : kind_of e.kind ≡ Some k) (f : FieldsF
       of_maps (λ m. Zeros (laid m e) (fields_end m) 16)
       (zeros_tail (laid 31 e) 14 2 refl) (zeros_tail (laid 7 e) 5 11 refl) (zeros_tail (laid 3 e) 3 13 refl) (zeros_tail (laid 1 e) 2 14 refl) k
 
-  kind-byte : get_or (laid (map_of k) e) 1 0 ≡ e.kind
-  kind-byte =
+  kind_byte : get_or (laid (map_of k) e) 1 0 ≡ e.kind
+  kind_byte =
       let same = sym (byte e.kind (kind_small e.kind k known)) in
       of_maps (λ m. get_or (laid m e) 1 0 ≡ e.kind) same same same same k
 
-  beyond-width : Sized 31 e → e.value < 256 ^ e.width → Zeros (laid 31 e) (6 + get_or (laid 31 e) 5 0) 14
-  beyond-width s small i lo hi =
+  beyond_width : Sized 31 e → e.value < 256 ^ e.width → Zeros (laid 31 e) (6 + get_or (laid 31 e) 5 0) 14
+  beyond_width s small i lo hi =
       let w = byte e.width (s.width refl) in
       let place : 6 + (i - 6) ≡ i = omega arith in
       ap (λ (j : ℕ). get_or (laid 31 e) j 0) (sym place)
@@ -113,10 +113,10 @@ module _ (e : Event) (k : Kind) (known : kind_of e.kind ≡ Some k) (f : FieldsF
 
   beyond : Stands (map_of k) 4 → e.value < 256 ^ e.width → Zeros (laid (map_of k) e) (6 + get_or (laid (map_of k) e) 5 0) 14
   beyond s small =
-      of_full 4 refl refl refl (λ m. Sized m e → Zeros (laid m e) (6 + get_or (laid m e) 5 0) 14) (λ z. beyond-width z small) k s (sized e k known f v)
+      of_full 4 refl refl refl (λ m. Sized m e → Zeros (laid m e) (6 + get_or (laid m e) 5 0) 14) (λ z. beyond_width z small) k s (sized e k known f v)
 
-  fits-within : FieldsFit k (within (map_of k) e)
-  fits-within = record {
+  fits_within : FieldsFit k (within (map_of k) e)
+  fits_within = record {
     thread = λ s. rw s (f.thread s);
     address = λ s. rw s (f.address s);
     width = λ s. rw s (f.width s);
@@ -125,10 +125,10 @@ module _ (e : Event) (k : Kind) (known : kind_of e.kind ≡ Some k) (f : FieldsF
 
   pub decodes : Decodes (laid (map_of k) e) k
   decodes =
-      let same : within (map_of k) e ≡ event_at (laid (map_of k) e) = sym read_back ∙ event-places (laid (map_of k) e) long k refl filler in
+      let same : within (map_of k) e ≡ event_at (laid (map_of k) e) = sym read_back ∙ event_places (laid (map_of k) e) long k refl filler in
       record {
-        head = (ap kind_of kind-byte ∙ known, refl);
+        head = (ap kind_of kind_byte ∙ known, refl);
         filler = filler;
-        fields = subst (λ (x : Event). FieldsFit k x) same fits-within;
+        fields = subst (λ (x : Event). FieldsFit k x) same fits_within;
         beyond = λ s. beyond s (v s);
       }

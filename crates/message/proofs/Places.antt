@@ -56,8 +56,8 @@ module _ (b : List ℕ) (long : length b ≡ 16) where
   pub eight : little (take 8 (drop 6 b)) ≡ value_at b
   eight = little_at_place 8 6 b (omega arith) ∙ omega arith
 
-  lacks-value : Zeros b 5 16 → value_at b ≡ 0
-  lacks-value z =
+  lacks_value : Zeros b 5 16 → value_at b ≡ 0
+  lacks_value z =
       let at : (i : ℕ) → 5 ≤ i → i < 16 → get_or b i 0 ≡ 0 = z in
       omega (arith, at 6 (omega arith) (omega arith), at 7 (omega arith) (omega arith), at 8 (omega arith) (omega arith), at 9 (omega arith) (omega arith), at 10 (omega arith) (omega arith), at 11 (omega arith) (omega arith), at 12 (omega arith) (omega arith), at 13 (omega arith) (omega arith))
 
@@ -68,25 +68,25 @@ module _ (b : List ℕ) (long : length b ≡ 16) where
   full = same_event (one 1 (omega arith)) (one 2 (omega arith)) two (one 5 (omega arith)) eight
 
   placed : Zeros b 5 16 → event_under 7 b ≡ event_at b
-  placed z = same_event (one 1 (omega arith)) (one 2 (omega arith)) two (sym (z 5 (omega arith) (omega arith))) (sym (lacks-value z))
+  placed z = same_event (one 1 (omega arith)) (one 2 (omega arith)) two (sym (z 5 (omega arith) (omega arith))) (sym (lacks_value z))
 
-  lacks-address : Zeros b 3 16 → get_or b 3 0 + get_or b 4 0 * 256 ≡ 0
-  lacks-address z = omega (arith, z 3 (omega arith) (omega arith), z 4 (omega arith) (omega arith))
+  lacks_address : Zeros b 3 16 → get_or b 3 0 + get_or b 4 0 * 256 ≡ 0
+  lacks_address z = omega (arith, z 3 (omega arith) (omega arith), z 4 (omega arith) (omega arith))
 
   threaded : Zeros b 3 16 → event_under 3 b ≡ event_at b
-  threaded z = same_event (one 1 (omega arith)) (one 2 (omega arith)) (sym (lacks-address z)) (sym (z 5 (omega arith) (omega arith))) (sym (lacks-value (later 3 5 (omega arith) z)))
+  threaded z = same_event (one 1 (omega arith)) (one 2 (omega arith)) (sym (lacks_address z)) (sym (z 5 (omega arith) (omega arith))) (sym (lacks_value (later 3 5 (omega arith) z)))
 
   bare : Zeros b 2 16 → event_under 1 b ≡ event_at b
-  bare z = same_event (one 1 (omega arith)) (sym (z 2 (omega arith) (omega arith))) (sym (lacks-address (later 2 3 (omega arith) z))) (sym (z 5 (omega arith) (omega arith))) (sym (lacks-value (later 2 5 (omega arith) z)))
+  bare z = same_event (one 1 (omega arith)) (sym (z 2 (omega arith) (omega arith))) (sym (lacks_address (later 2 3 (omega arith) z))) (sym (z 5 (omega arith) (omega arith))) (sym (lacks_value (later 2 5 (omega arith) z)))
 
   -- the event under the map of a kind
-  pub event-places : (k : Kind) → get_or b 0 0 ≡ map_of k → Zeros b (fields_end (map_of k)) 16 → event_of b ≡ event_at b
-  event-places k e z =
+  pub event_places : (k : Kind) → get_or b 0 0 ≡ map_of k → Zeros b (fields_end (map_of k)) 16 → event_of b ≡ event_at b
+  event_places k e z =
       ap (λ (m : ℕ). event_under m b) e ∙ of_maps (λ m. Zeros b (fields_end m) 16 → event_under m b ≡ event_at b) (λ _. full) placed threaded bare k z
 
   -- the kind, once bit 0 stands
-  pub kind-place : get_or b 0 0 % 2 ≡ 1 → field b 0 ≡ get_or b 1 0
-  kind-place odd =
+  pub kind_place : get_or b 0 0 % 2 ≡ 1 → field b 0 ≡ get_or b 1 0
+  kind_place odd =
       let bit : stands (get_or b 0 0) 0 ≡ true = grind (arith, nat_tests) in
       rw bit (one 1 (omega arith))
 

@@ -27,15 +27,15 @@ module _ (b : List ℕ) (long : length b ≡ 16) (bytes : Bytes b) where
   join : (o r : ℕ) → part o r ++ drop (o + r) b ≡ drop o b
   join o r = ap (λ (t : List ℕ). part o r ++ t) (sym (drop-drop r o b)) ∙ take-append-drop r (drop o b)
 
-  rest-filler : (a : ℕ) → a ≤ 16 → Zeros b a 16 → drop a b ≡ replicate (16 - a) 0
-  rest-filler a h z =
+  rest_filler : (a : ℕ) → a ≤ 16 → Zeros b a 16 → drop a b ≡ replicate (16 - a) 0
+  rest_filler a h z =
       ext_get_or 0 (drop a b) (replicate (16 - a) 0)
       (simp (length-drop, length-replicate) (omega arith))
       (λ i l. let small : i < 16 - a = omega (arith, length-drop a b) in
       get_or-drop a b i 0 ∙ z (a + i) (omega arith) (omega arith) ∙ sym (get_or-replicate (16 - a) i 0 0 small))
 
-  pub laid-again : (m : ℕ) → get_or b 0 0 ≡ m → fields_end m ≤ 16 → Zeros b (fields_end m) 16 → laid m (event_under m b) ≡ b
-  laid-again m head end filler =
+  pub laid_again : (m : ℕ) → get_or b 0 0 ≡ m → fields_end m ≤ 16 → Zeros b (fields_end m) 16 → laid m (event_under m b) ≡ b
+  laid_again m head end filler =
       let field-again : (n : ℕ) → offset m n + room m n ≤ 16 → bytes_of (room m n) (field_under m b n) ≡ part (offset m n) (room m n) = λ n h. again (offset m n) (room m n) h in
       let f0 = field-again 0 (omega arith) in
       let f1 = field-again 1 (omega arith) in
@@ -47,7 +47,7 @@ module _ (b : List ℕ) (long : length b ≡ 16) (bytes : Bytes b) where
       let j2 = join (offset m 2) (room m 2) in
       let j3 = join (offset m 3) (room m 3) in
       let j4 = join (offset m 4) (room m 4) in
-      let tail = rest-filler (fields_end m) end filler in
+      let tail = rest_filler (fields_end m) end filler in
       let all : b ≡ get_or b 0 0 ∷ drop 1 b = drop-cons b 0 0 (omega arith) in
       simp append_assoc (cc)
 

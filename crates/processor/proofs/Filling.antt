@@ -19,8 +19,8 @@ module _ {X : Type 0} (n : ℕ) (f : ℕ → X) (d : X) where
     λ k b. get_or-set_other ys i k x d (λ z. absurd (omega arith)) ∙ high k (omega arith),
   )
 
-  pub filled-all : (ys : List X) (w : ℕ) → Filled ys w → ys ≡ map (λ i. cond (ltb i w) (f i) d) (range_with_len 0 n)
-  filled-all ys w (long, low, high) = fill_by_all (λ i. cond (ltb i w) (f i) d) ys n d long (λ k b. elim (cases_lt k w) [
+  pub filled_all : (ys : List X) (w : ℕ) → Filled ys w → ys ≡ map (λ i. cond (ltb i w) (f i) d) (range_with_len 0 n)
+  filled_all ys w (long, low, high) = fill_by_all (λ i. cond (ltb i w) (f i) d) ys n d long (λ k b. elim (cases_lt k w) [
     | inl l ↦ low k l ∙ sym (cond-true (ltb k w) (f k) d (lt-ltb k w l))
     | inr l ↦ high k l ∙ sym (cond-false (ltb k w) (f k) d (le-ltb k w l))
   ])

@@ -53,26 +53,26 @@ module _ (b : List ℕ) (read : NoneHolds (Refused b)) (k : Kind) (known : kind_
   stands : (n : ℕ) → Stands (map_of k) n → Stands (map_at b) n
   stands n h = subst (λ m. Stands m n) (sym its_map) h
 
-  a-thread : Stands (map_of k) 1 → (event_of b).thread < 4
-  a-thread h = let l = not_above (event_of b).thread 3 (λ l. read (faults.Field Thread) (stands 1 h, l)) in omega arith
+  a_thread : Stands (map_of k) 1 → (event_of b).thread < 4
+  a_thread h = let l = not_above (event_of b).thread 3 (λ l. read (faults.Field Thread) (stands 1 h, l)) in omega arith
 
-  an-address : Stands (map_of k) 2 → (event_of b).address < 4096
-  an-address h = let l = not_above (event_of b).address 4095 (λ l. read (faults.Field Address) (stands 2 h, l)) in omega arith
+  an_address : Stands (map_of k) 2 → (event_of b).address < 4096
+  an_address h = let l = not_above (event_of b).address 4095 (λ l. read (faults.Field Address) (stands 2 h, l)) in omega arith
 
-  an-access : Stands (map_of k) 2 → Stands (map_of k) 3 → InLine (access_of (event_of b))
-  an-access h j =
+  an_access : Stands (map_of k) 2 → Stands (map_of k) 3 → InLine (access_of (event_of b))
+  an_access h j =
       let e = event_of b in
       let fits = in_one_line e.address e.width (is_width e.width (λ n. read (faults.Field Width) (stands 3 j, n))) (not_apart (e.address % e.width) 0 (λ n. read (faults.Field Unaligned) (stands 3 j, n))) in
-      (an-address h, fits.0, fits.1)
+      (an_address h, fits.0, fits.1)
 
 pub in_its_range : (b : List ℕ) → NoneHolds (Refused b) → (k : Kind) → kind_of (field b 0) ≡ Some k → InRange (operation k (event_of b))
-in_its_range b read kind.Store known = (a-thread b read kind.Store known refl, an-access b read kind.Store known refl refl)
-in_its_range b read kind.StrongFlush known = (a-thread b read kind.StrongFlush known refl, let l = an-address b read kind.StrongFlush known refl in omega arith)
-in_its_range b read kind.WeakFlush known = (a-thread b read kind.WeakFlush known refl, let l = an-address b read kind.WeakFlush known refl in omega arith)
-in_its_range b read kind.StoreFence known = (a-thread b read kind.StoreFence known refl, tt)
-in_its_range b read kind.FullFence known = a-thread b read kind.FullFence known refl
-in_its_range b read kind.Drain known = a-thread b read kind.Drain known refl
-in_its_range b read kind.Load known = (a-thread b read kind.Load known refl, an-access b read kind.Load known refl refl)
+in_its_range b read kind.Store known = (a_thread b read kind.Store known refl, an_access b read kind.Store known refl refl)
+in_its_range b read kind.StrongFlush known = (a_thread b read kind.StrongFlush known refl, let l = an_address b read kind.StrongFlush known refl in omega arith)
+in_its_range b read kind.WeakFlush known = (a_thread b read kind.WeakFlush known refl, let l = an_address b read kind.WeakFlush known refl in omega arith)
+in_its_range b read kind.StoreFence known = (a_thread b read kind.StoreFence known refl, tt)
+in_its_range b read kind.FullFence known = a_thread b read kind.FullFence known refl
+in_its_range b read kind.Drain known = a_thread b read kind.Drain known refl
+in_its_range b read kind.Load known = (a_thread b read kind.Load known refl, an_access b read kind.Load known refl refl)
 in_its_range b read kind.PowerCut known = tt
 
 -- ── the event that was read ──
@@ -83,12 +83,12 @@ module _ (b : List ℕ) (e : Event) (r : Reading b (Ok e)) where
   pub unknown : kind_of e.kind ≡ None → ⊥
   unknown h = r.0 faults.Kind (same_kind None h)
 
-  pub in-range : (k : Kind) → kind_of e.kind ≡ Some k → InRange (operation k e)
-  in-range k h = subst (λ (x : Event). InRange (operation k x)) (sym r.1) (in_its_range b r.0 k (same_kind (Some k) h))
+  pub is_in_range : (k : Kind) → kind_of e.kind ≡ Some k → InRange (operation k e)
+  is_in_range k h = subst (λ (x : Event). InRange (operation k x)) (sym r.1) (in_its_range b r.0 k (same_kind (Some k) h))
 
   pub heard : (k : Kind) → kind_of e.kind ≡ Some k → (o : Operation) → o ≡ operation k e → Heard b o
   heard k h o is = record {
     read = r.0;
     asks = ap (λ (x : Event). operation_for x) (sym r.1) ∙ (ap (option_map (λ j. operation j e)) h ∙ ap (λ (x : Operation). Some x) (sym is));
-    in_range = subst InRange (sym is) (in-range k h);
+    in_range = subst InRange (sym is) (is_in_range k h);
   }

@@ -60,8 +60,8 @@ module _ (run : ℕ) (D : List Departure) (h : Recorded run D) (t : ℕ) (e : En
   abbrev new : Departure
   new = departure run D t e
 
-  dated-push : Dated (D ++ new ∷ [])
-  dated-push i l = elim (cases_lt i (length D)) [
+  dated_push : Dated (D ++ new ∷ [])
+  dated_push i l = elim (cases_lt i (length D)) [
     | inl k ↦
         let at = get_or_append_left D (new ∷ []) no_departure i k in
         let front = take-append-le i D (new ∷ []) (omega arith) in
@@ -73,10 +73,10 @@ module _ (run : ℕ) (D : List Departure) (h : Recorded run D) (t : ℕ) (e : En
         ap (λ (d : Departure). d.moment) at ∙ ap (λ (n : ℕ). n + 1) (ap (λ (d : Departure). count d.run D) (sym at) ∙ ap (λ (x : List Departure). count (left_at (D ++ new ∷ []) i).run x) (sym front))
   ]
 
-  pub recorded-push : Recorded run (D ++ new ∷ [])
-  recorded-push = record {
+  pub recorded_push : Recorded run (D ++ new ∷ [])
+  recorded_push = record {
     placed = at_push D new no_departure (λ d. (d.run ≤ run) × (d.thread < 4)) h.placed (omega arith, four);
     fitting = all_push D new no_departure (λ d. fits d.entry ≡ true) h.fitting (so_fits e fit) refl;
     in_turn = λ i j (l, m). related_push no_departure (λ x y. x.run ≤ y.run) D new (λ i j l m. h.in_turn i j (l, m)) (λ i l. (h.placed i l).0) i j l m;
-    dated = dated-push;
+    dated = dated_push;
   }

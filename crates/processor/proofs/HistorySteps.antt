@@ -9,7 +9,7 @@ use Rattle.processor.specs.Memory.{Fits}
 use Rattle.processor.specs.declared.departures.Departure.{Departure}
 use Rattle.processor.specs.declared.entries.Entry.{Entry}
 use Rattle.processor.specs.declared.history.History.{History}
-use Rattle.processor.proofs.HistoryLaws.{Recorded, count-push, none_yet, recorded-push, recorded_later}
+use Rattle.processor.proofs.HistoryLaws.{Recorded, count-push, none_yet, recorded_push, recorded_later}
 
 abbrev pub Facts : ℕ → ℕ → List Departure → Type 0
 Facts run n D = record { within : run ≤ 4; counted : n ≡ count run D; placed : Placed run D; fitting : Fitting D; in_turn : InTurn D; dated : Dated D }
@@ -33,7 +33,7 @@ left_facts h t e E four fit is =
     let D = listed h.left in
     let d : Departure = departure h.run D t e in
     subst (Facts h.run (h.present_count + 1)) (sym is)
-    (facts h.run (h.present_count + 1) (D ++ d ∷ []) h.within (omega (arith, h.counted, count-push h.run D d refl)) (recorded-push h.run D (recorded_of h) t e four fit))
+    (facts h.run (h.present_count + 1) (D ++ d ∷ []) h.within (omega (arith, h.counted, count-push h.run D d refl)) (recorded_push h.run D (recorded_of h) t e four fit))
 
 pub closed_facts : (h : History) → h.run < 4 → Facts (h.run + 1) 0 (listed h.left)
 closed_facts h l =

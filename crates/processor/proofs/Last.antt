@@ -13,14 +13,14 @@ or_none None = refl
 or_none (Some x) = refl
 
 module _ {A B : Type 0} (f : A → Option B) where
-  pub last-push : (xs : List A) (x : A) → last_of f (xs ++ x ∷ []) ≡ option_or (f x) (last_of f xs)
-  last-push [] x = sym (or_none (f x))
-  last-push (y ∷ xs) x = ap (λ o. option_or o (f y)) (last-push xs x) ∙ or_assoc (f x) (last_of f xs) (f y)
+  pub last_push : (xs : List A) (x : A) → last_of f (xs ++ x ∷ []) ≡ option_or (f x) (last_of f xs)
+  last_push [] x = sym (or_none (f x))
+  last_push (y ∷ xs) x = ap (λ o. option_or o (f y)) (last_push xs x) ∙ or_assoc (f x) (last_of f xs) (f y)
 
   -- one place further: what stands there, if it gives anything
   pub last_more : (xs : List A) (i : ℕ) (d : A) (last found next : Option B) → i < length xs → last ≡ last_of f (take i xs) → found ≡ f (get_or xs i d) → next ≡ option_or found last → next ≡ last_of f (take (i + 1) xs)
   last_more xs i d last found next l p q r =
-      let e : last_of f (take (i + 1) xs) ≡ option_or (f (get_or xs i d)) (last_of f (take i xs)) = ap (last_of f) (take_more xs i d l) ∙ last-push (take i xs) (get_or xs i d) in
+      let e : last_of f (take (i + 1) xs) ≡ option_or (f (get_or xs i d)) (last_of f (take i xs)) = ap (last_of f) (take_more xs i d l) ∙ last_push (take i xs) (get_or xs i d) in
       cc
 
   last_one : (x : A) (xs : List A) (o p : Option B) → Last f xs o → f x ≡ p → Last f (x ∷ xs) (option_or o p)
@@ -28,6 +28,6 @@ module _ {A B : Type 0} (f : A → Option B) where
   last_one x xs None None none q = (q, none)
   last_one x xs None (Some y) none q = ([], x, xs, refl, q, none)
 
-  pub last-is : (xs : List A) → Last f xs (last_of f xs)
-  last-is [] = tt
-  last-is (x ∷ xs) = last_one x xs (last_of f xs) (f x) (last-is xs) refl
+  pub last_is : (xs : List A) → Last f xs (last_of f xs)
+  last_is [] = tt
+  last_is (x ∷ xs) = last_one x xs (last_of f xs) (f x) (last_is xs) refl

@@ -61,10 +61,10 @@ module _ (r n : ℕ) (D : List Departure) (i : ℕ) (d : Departure) (l : i < len
   more : (b : Bool) → eqb (get_or D i d).run r ≡ b → of_run r (take (i + 1) D) ≡ of_run r (take i D) ++ cond b (get_or D i d ∷ []) []
   more b e = filter_more (λ x. eqb x.run r) D i d l ∙ ap (λ c. of_run r (take i D) ++ cond c (get_or D i d ∷ []) []) e
 
-  pub same-run : (get_or D i d).run ≡ r → (get_or D i d).thread < 4 → (s' : LineFlushes) → s' ≡ passed n (get_or D i d) s → Tracks n (reverse (of_run r (take (i + 1) D))) s'
-  same-run e four s' is =
+  pub same_run : (get_or D i d).run ≡ r → (get_or D i d).thread < 4 → (s' : LineFlushes) → s' ≡ passed n (get_or D i d) s → Tracks n (reverse (of_run r (take (i + 1) D))) s'
+  same_run e four s' is =
       let back : reverse (of_run r (take (i + 1) D)) ≡ get_or D i d ∷ reverse (of_run r (take i D)) = ap (λ (x : List Departure). reverse x) (more true (eq-eqb (get_or D i d).run r e)) ∙ reverse-append (of_run r (take i D)) (get_or D i d ∷ []) in
       subst (Tracks n (reverse (of_run r (take (i + 1) D)))) (sym is) (subst (λ (x : List Departure). Tracks n x (passed n (get_or D i d) s)) (sym back) (tracks_more n (reverse (of_run r (take i D))) (get_or D i d) s four inv))
 
-  pub other-run : ((get_or D i d).run ≡ r → ⊥) → Tracks n (reverse (of_run r (take (i + 1) D))) s
-  other-run e = subst (λ (x : List Departure). Tracks n (reverse x) s) (sym (more false (ne_eqb (get_or D i d).run r e) ∙ append-nil (of_run r (take i D)))) inv
+  pub other_run : ((get_or D i d).run ≡ r → ⊥) → Tracks n (reverse (of_run r (take (i + 1) D))) s
+  other_run e = subst (λ (x : List Departure). Tracks n (reverse x) s) (sym (more false (ne_eqb (get_or D i d).run r e) ∙ append-nil (of_run r (take i D)))) inv

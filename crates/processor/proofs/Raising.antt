@@ -51,8 +51,8 @@ is_fence (WeakFlush k) = inr (λ e. absurd (let z : ◌≡◌ {A = ℕ} 0 1 = cc
 is_fence StoreFence = inl refl
 
 module _ (n : ℕ) (w : Departure) (older : List Departure) (weak : w.entry ≡ WeakFlush n) where
-  in-set : mark w.thread n older ≤ set_mark w.thread n (w ∷ older)
-  in-set =
+  in_set : mark w.thread n older ≤ set_mark w.thread n (w ∷ older)
+  in_set =
       let own : eqb w.thread w.thread ≡ true = eq-eqb w.thread w.thread refl in
       let same : eqb n n ≡ true = eq-eqb n n refl in
       let m : ℕ = mark w.thread n older in
@@ -63,9 +63,9 @@ module _ (n : ℕ) (w : Departure) (older : List Departure) (weak : w.entry ≡ 
       omega arith
 
   -- what is newer keeps it, or its thread has fenced
-  still-set : (newer : List Departure) → (mark w.thread n older ≤ set_mark w.thread n (newer ++ w ∷ older)) ⊎ Fenced w.thread newer
-  still-set [] = inl in-set
-  still-set (d ∷ newer) = elim (still-set newer) [
+  still_set : (newer : List Departure) → (mark w.thread n older ≤ set_mark w.thread n (newer ++ w ∷ older)) ⊎ Fenced w.thread newer
+  still_set [] = inl in_set
+  still_set (d ∷ newer) = elim (still_set newer) [
     | inr f ↦ inr (inr f)
     | inl l ↦ elim (cases_eq d.thread w.thread) [
       | inr other ↦
@@ -105,7 +105,7 @@ above n k (d ∷ h) falls (c ∷ newer) w older e (inr (weak, is, inr f)) =
 above n k (d ∷ h) falls (c ∷ newer) w older e (inr (weak, is, inl (own, fence))) =
     let same = head_of h d c (newer ++ w ∷ older) e in
     let rest = above n k h falls.1 newer w older same.1 in
-    elim (still-set n w older weak newer) [
+    elim (still_set n w older weak newer) [
       | inr f ↦ omega (arith, rest (inr (weak, is, f)), floor_up n d h falls)
       | inl l ↦
           let t : d.thread ≡ w.thread = ap (λ (x : Departure). x.thread) same.0 ∙ own in

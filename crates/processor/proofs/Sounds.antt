@@ -30,9 +30,9 @@ use Rattle.processor.proofs.Bounds.{total_few, taken_drained_by}
 use Rattle.processor.proofs.Fitting.{fits_so, fit_push}
 use Rattle.processor.proofs.FloorLaws.{floor_within, mark_within}
 use Rattle.processor.proofs.Grows.{grown_trans, grown_same, grown_counted, others_stay}
-use Rattle.processor.proofs.HistoryLaws.{Recorded, recorded_none, recorded_later, recorded-push}
+use Rattle.processor.proofs.HistoryLaws.{Recorded, recorded_none, recorded_later, recorded_push}
 use Rattle.processor.proofs.Hearing.{in_its_range}
-use Rattle.processor.proofs.Last.{last-is}
+use Rattle.processor.proofs.Last.{last_is}
 use Rattle.processor.proofs.MachineFacts.{Facts, acted-facts, leave_facts, cut-facts, entered-facts, kept-facts, facts-opened}
 use Rattle.processor.proofs.Raising.{largest-floor}
 use Rattle.processor.proofs.Replaced.{at_set}
@@ -99,7 +99,7 @@ none_fit t = subst AllFit (sym (no_rows t)) (λ i. subst (λ (e : Entry). fits e
 -- ── steps ──
 sound_acted : (t : ℕ) (e : Entry) (m : Machine) → Sound m → t < 4 → Fits e → length m.left < 512 → Sound (acted t e m)
 sound_acted t e m s four l room = sound_by (acted t e m) (record {
-  recorded = recorded-push m.run m.left (recorded m s) t e four l;
+  recorded = recorded_push m.run m.left (recorded m s) t e four l;
   facts = acted-facts m (facts m s) t e;
   waiting = s.waiting;
   cuts = s.cuts;
@@ -111,7 +111,7 @@ sound_acted t e m s four l room = sound_by (acted t e m) (record {
 sound_drained : (es : List Entry) (t : ℕ) (m : Machine) → row m t ≡ es → Sound m → t < 4 → length m.left < 512 → Sound (drained_from es t m)
 sound_drained [] t m w s four room = s
 sound_drained (e ∷ es) t m w s four room = sound_by (acted t e (with_row t es m)) (record {
-  recorded = recorded-push m.run m.left (recorded m s) t e four (fits_so e (subst (λ (r : List Entry). fits (get_or r 0 StoreFence) ≡ true) w (s.waiting t 0)));
+  recorded = recorded_push m.run m.left (recorded m s) t e four (fits_so e (subst (λ (r : List Entry). fits (get_or r 0 StoreFence) ≡ true) w (s.waiting t 0)));
   facts = leave_facts m (facts m s) t e es w;
   waiting = fitting_set m.waits t es (λ i. subst (λ (r : List Entry). fits (get_or r (suc i) StoreFence) ≡ true) w (s.waiting t (suc i))) s.waiting;
   cuts = s.cuts;
@@ -195,25 +195,25 @@ sound_counted o m i none s =
 
 -- ── messages ──
 module _ (m : Machine) (b : List ℕ) (none : NoneHolds (LogRefused m b)) where
-  read-so : NoneHolds (Refused b)
-  read-so f h = none (Buffer (Message f)) (inl (f, refl, h))
+  read_so : NoneHolds (Refused b)
+  read_so f h = none (Buffer (Message f)) (inl (f, refl, h))
 
-  done-so : (o : Operation) → Asks b o → NoneHolds (Refuses m o)
-  done-so o a f h = none f (inr (o, a, h))
+  done_so : (o : Operation) → Asks b o → NoneHolds (Refuses m o)
+  done_so o a f h = none f (inr (o, a, h))
 
-  asked-in-range : (o : Operation) (k : Option Kind) → kind_of (field b 0) ≡ k → Asks b o → InRange o
-  asked-in-range o None h a =
+  asked_in_range : (o : Operation) (k : Option Kind) → kind_of (field b 0) ≡ k → Asks b o → InRange o
+  asked_in_range o None h a =
       let e : operation_for (event_of b) ≡ None = ap (option_map (λ j. operation j (event_of b))) h in
       let z : ◌≡◌ {A = ℕ} 0 1 = cc in
       absurd (omega arith)
-  asked-in-range o (Some k) h a =
+  asked_in_range o (Some k) h a =
       let e : operation_for (event_of b) ≡ Some (operation k (event_of b)) = ap (option_map (λ j. operation j (event_of b))) h in
       let is : operation k (event_of b) ≡ o = cc in
-      subst InRange is (in_its_range b read-so k h)
+      subst InRange is (in_its_range b read_so k h)
 
 sound_logged : (m : Machine) (b : List ℕ) (m' : Machine) → Logs m b (Ok tt) m' → Sound m → Sound m'
 sound_logged m b m' (none, (o, a, is)) s =
-    subst Sound (sym is) (sound_counted o m (asked-in-range m b none o (kind_of (field b 0)) refl a) (done-so m b none o a) s)
+    subst Sound (sym is) (sound_counted o m (asked_in_range m b none o (kind_of (field b 0)) refl a) (done_so m b none o a) s)
 
 grown_logged : (m : Machine) (b : List ℕ) (m' : Machine) → Logs m b (Ok tt) m' → Grown m m'
 grown_logged m b m' (none, (o, a, is)) = subst (Grown m) (sym is) (grown_counted o m)
@@ -233,6 +233,6 @@ laws = record {
   keeps = sound_accepted;
   grows = grown_accepted;
   others = others_stay;
-  youngest = λ b es. last-is (from_waiting b) es;
-  latest = λ r b D. last-is (from_cached r b) D;
+  youngest = λ b es. last_is (from_waiting b) es;
+  latest = λ r b D. last_is (from_cached r b) D;
 }

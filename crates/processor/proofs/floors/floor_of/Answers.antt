@@ -4,7 +4,7 @@ use Rattle.processor.specs.Departures.{of_run, floor_after}
 use Rattle.processor.specs.History.{no_departure}
 use Rattle.processor.specs.declared.departures.Departure.{Departure}
 use Rattle.processor.proofs.Fitting.{fits_so}
-use Rattle.processor.proofs.Passing.{Tracks, tracks_none, same-run, other-run}
+use Rattle.processor.proofs.Passing.{Tracks, tracks_none, same_run, other_run}
 use Rattle.processor.proofs.floors.floor_of.Goals as goal
 use Rattle.processor.proofs.floors.floor_of.Goals.{then-departure-run, else-departure-run}
 
@@ -16,8 +16,8 @@ loop-departure-preserved c =
     let D = c.args.left.now in
     let i = c.loop-departure.departure-index in
     elim c.if-departure-run.branch [
-      | then-departure-run w ↦ same-run c.args.run c.args.line D i no_departure (omega arith) c.loop-departure.flushes c.loop-departure.invariant w.if-departure-run.true (c.requires.threads i (omega arith)) c.if-departure-run.flushes (w.flushes-is ∙ w.note.ensures)
-      | else-departure-run w ↦ subst (Tracks c.args.line _) (sym w.flushes-is) (other-run c.args.run c.args.line D i no_departure (omega arith) c.loop-departure.flushes c.loop-departure.invariant w.if-departure-run.false)
+      | then-departure-run w ↦ same_run c.args.run c.args.line D i no_departure (omega arith) c.loop-departure.flushes c.loop-departure.invariant w.if-departure-run.true (c.requires.threads i (omega arith)) c.if-departure-run.flushes (w.flushes-is ∙ w.note.ensures)
+      | else-departure-run w ↦ subst (Tracks c.args.line _) (sym w.flushes-is) (other_run c.args.run c.args.line D i no_departure (omega arith) c.loop-departure.flushes c.loop-departure.invariant w.if-departure-run.false)
     ]
 
 pub note-requires : goal.note-requires

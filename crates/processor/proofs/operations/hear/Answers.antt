@@ -1,5 +1,5 @@
 use Rattle.std.proofs.Common.{sym, ◌∙◌}
-use Rattle.processor.proofs.Hearing.{unknown, in-range, heard}
+use Rattle.processor.proofs.Hearing.{unknown, is_in_range, heard}
 use Rattle.processor.proofs.operations.hear.Goals as goal
 
 pub unreachable-requires : goal.unreachable-requires
@@ -8,7 +8,7 @@ unreachable-requires c =
 
 pub operation_of-requires : goal.operation_of-requires
 operation_of-requires c =
-    in-range c.args.message.now c.in_ok-event.event c.in_ok-event.ensures.reads c.in-Some.kind (sym c.in-Some.ensures)
+    is_in_range c.args.message.now c.in_ok-event.event c.in_ok-event.ensures.reads c.in-Some.kind (sym c.in-Some.ensures)
 
 pub returns : goal.returns
 returns c =

@@ -3,7 +3,7 @@ use Rattle.processor.specs.Memory.{Fits}
 use Rattle.processor.specs.Waiting.{waiting}
 use Rattle.processor.specs.declared.buffers.Buffer.{Buffer}
 use Rattle.processor.specs.declared.entries.Entry.{Entry}
-use Rattle.processor.proofs.Rowed.{at_row, set-row, same_row, new_row}
+use Rattle.processor.proofs.Rowed.{at_row, set_row, same_row, new_row}
 use Rattle.processor.proofs.buffers.Buffers.drain.Goals as goal
 
 -- the row of a thread, without its oldest entry, stands in the table again
@@ -15,7 +15,7 @@ put_back rows t d b None inside h =
     (sym (at_row waiting rows t d [] inside) ∙ h.0, same_row waiting rows t d [] inside b (h.1 ∙ sym h.0))
 put_back rows t d b (Some e) inside h =
     let left = new_row waiting rows t d [] inside b in
-    (h.0, sym (at_row waiting rows t d [] inside) ∙ (h.1 ∙ ap (λ (l : List Entry). e ∷ l) (sym left)), set-row waiting rows t d [] inside b _ (sym left))
+    (h.0, sym (at_row waiting rows t d [] inside) ∙ (h.1 ∙ ap (λ (l : List Entry). e ∷ l) (sym left)), set_row waiting rows t d [] inside b _ (sym left))
 
 pub returns : goal.returns
 returns c =

@@ -2,7 +2,7 @@ use Rattle.std.proofs.Common.{◌≡◌, ℕ, ◌+◌, None, Option, subst, arit
 use Rattle.processor.specs.MachineView.{machine_of}
 use Rattle.processor.specs.Sources.{source}
 use Rattle.processor.specs.declared.sources.Source.{Source}
-use Rattle.processor.proofs.Filling.{Filled, filled_more, filled-all}
+use Rattle.processor.proofs.Filling.{Filled, filled_more, filled_all}
 use Rattle.processor.proofs.processor.Processor.sources.Goals as goal
 
 pub loop-i-preserved : goal.loop-i-preserved
@@ -15,4 +15,4 @@ returns c =
     let f : ℕ → Option Source = λ k. source (machine_of c.args.self.now) c.args.thread (c.args.access.now.address + k) in
     let w : ℕ = c.args.access.now.width in
     let end : c.loop-i.i ≡ w = omega arith in
-    filled-all 8 f None c.loop-i.sources w (subst (Filled 8 f None c.loop-i.sources) end c.loop-i.invariant)
+    filled_all 8 f None c.loop-i.sources w (subst (Filled 8 f None c.loop-i.sources) end c.loop-i.invariant)
