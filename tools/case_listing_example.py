@@ -1,27 +1,11 @@
 #!/usr/bin/env python3
 """Writes the recording that the listing of a case is run on, and what it should print: crates/case_listing/stdin and stdout."""
-import os
-
 import processor
 import wire
+from listing_example import NAMES, words, write_run
 from processor import CUT, DRAIN, FULL_FENCE, LAYERS, LOAD, STORE, STORE_FENCE, STRONG, WEAK, Machine
 
-NAMES = ['store', 'strong flush', 'weak flush', 'store fence', 'full fence', 'drain', 'load', 'power cut']
 REASONS = {**wire.REASONS, **processor.REASONS}
-
-
-def words(kind, thread=0, address=0, width=0, value=0):
-    place = f'address {address} (line {address // 64})'
-    return {
-        STORE: f'thread {thread} stores {value} ({value:#x}), width {width}, at {place}',
-        STRONG: f'thread {thread} flushes {place} strongly',
-        WEAK: f'thread {thread} flushes {place} weakly',
-        STORE_FENCE: f'thread {thread} fences its stores',
-        FULL_FENCE: f'thread {thread} fences in full',
-        DRAIN: f'the oldest waiting entry of thread {thread} leaves',
-        LOAD: f'thread {thread} loads {value} ({value:#x}), width {width}, at {place}',
-        CUT: 'the power is cut',
-    }[kind]
 
 
 def entry_words(entry):
@@ -133,9 +117,5 @@ events += [
 # no entry of thread 3 waits; what comes behind is not looked at
 recording = b''.join(wire.write(*event) for event in events + [(DRAIN, 3), (CUT,)]) + b'\x1f'
 
-folder = os.path.join(os.path.dirname(os.path.dirname(os.path.abspath(__file__))), 'crates', 'case_listing')
-with open(os.path.join(folder, 'stdin'), 'wb') as f:
-    f.write(recording)
-with open(os.path.join(folder, 'stdout'), 'w') as f:
-    f.write('\n'.join(listing(recording)) + '\n')
+write_run('case_listing', recording, listing(recording))
 print(len(events), 'messages and a refused one')

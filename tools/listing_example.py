@@ -48,9 +48,16 @@ lines.append(f'messages read: {len(events)}')
 for number, name in enumerate(NAMES, 1):
     lines.append(f'  {name}: {sum(e[0] == number for e in events)}')
 
-folder = os.path.join(os.path.dirname(os.path.dirname(os.path.abspath(__file__))), 'crates', 'listing')
-with open(os.path.join(folder, 'stdin'), 'wb') as f:
-    f.write(recording)
-with open(os.path.join(folder, 'stdout'), 'w') as f:
-    f.write('\n'.join(lines) + '\n')
-print(len(events), 'messages and a damaged one')
+
+def write_run(crate, recording, lines):
+    """Writes what the program of a crate is run on and what it should print."""
+    folder = os.path.join(os.path.dirname(os.path.dirname(os.path.abspath(__file__))), 'crates', crate)
+    with open(os.path.join(folder, 'stdin'), 'wb') as f:
+        f.write(recording)
+    with open(os.path.join(folder, 'stdout'), 'w') as f:
+        f.write('\n'.join(lines) + '\n')
+
+
+if __name__ == '__main__':
+    write_run('listing', recording, lines)
+    print(len(events), 'messages and a damaged one')

@@ -88,10 +88,16 @@ def table():
         ask_parts(length)
 
 
-table()
-folder = os.path.join(os.path.dirname(os.path.dirname(os.path.abspath(__file__))), 'crates', 'wire_examples')
-with open(os.path.join(folder, 'stdin'), 'w') as f:
-    f.write('\n'.join(lines) + '\n')
-with open(os.path.join(folder, 'stdout'), 'w') as f:
-    f.write('\n'.join(answers) + '\n')
-print(len(lines), 'examples')
+def write_table(crate):
+    """Writes the rows and answers so far as what the program of a crate is run on and should print."""
+    folder = os.path.join(os.path.dirname(os.path.dirname(os.path.abspath(__file__))), 'crates', crate)
+    with open(os.path.join(folder, 'stdin'), 'w') as f:
+        f.write('\n'.join(lines) + '\n')
+    with open(os.path.join(folder, 'stdout'), 'w') as f:
+        f.write('\n'.join(answers) + '\n')
+
+
+if __name__ == '__main__':
+    table()
+    write_table('wire_examples')
+    print(len(lines), 'examples')
