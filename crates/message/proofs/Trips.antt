@@ -6,6 +6,7 @@ use Rattle.message.specs.Checks.{event_at, bytes_at, FieldsFit, ValueFits, Decod
 use Rattle.message.specs.Faults.{message_code, pack_code}
 use Rattle.message.specs.Format.{Stands, fields_end, little, map_at, Zeros}
 use Rattle.message.specs.Kinds.{kind_of, map_of, map_for}
+use Rattle.message.specs.KnownEvents.{ReadingKnown}
 use Rattle.message.specs.Packing.{within, carried, laid, message_of, PackRefused, Packing}
 use Rattle.message.specs.Reading.{event_of, Refused, Reading}
 use Rattle.message.specs.Refusals.{Comes}
@@ -16,6 +17,7 @@ use Rattle.message.specs.declared.faults.MessageFault.TheVariants.{Length, Map, 
 use Rattle.message.specs.declared.faults.PackFault.{PackFault}
 use Rattle.message.specs.declared.faults.PackFault.TheVariants.{Short}
 use Rattle.message.specs.declared.kinds.Kind as kinds
+use Rattle.message.specs.declared.known.KnownEvent.{KnownEvent}
 use Rattle.message.proofs.FieldOrders.{map_known, field_late}
 use Rattle.message.proofs.Numbers.{Bytes, little_below}
 use Rattle.message.proofs.Orders.{comes, none_holds, event_same}
@@ -37,16 +39,16 @@ pub length_comes : (b : List ℕ) → (length b ≡ 16 → ⊥) → Comes (λ g.
 length_comes b h = record { holds = h; first = λ g l r. omega (arith, number_least g) }
 
 -- what `decode` says of its answer
-abbrev pub Decoding : List ℕ → Result Event MessageFault → Type 0
-Decoding b r = MatchResult r (λ e. (e ≡ event_at b) × ((k : kinds.Kind) × Decodes b k)) (λ f. NotDecoded b f)
+abbrev pub Decoding : List ℕ → Result KnownEvent MessageFault → Type 0
+Decoding b r = MatchResult r (λ k. (k.event ≡ event_at b) × Decodes b k.kind) (λ f. NotDecoded b f)
 
 -- no more than sixteen bytes, whatever the kind
 ends : (k : kinds.Kind) → fields_end (map_of k) ≤ 16
 ends = of_maps (λ m. fields_end m ≤ 16) (lit≤ tt) (lit≤ tt) (lit≤ tt) (lit≤ tt)
 
 module _ (b : List ℕ) (whole : length b ≡ 16) (bytes : Bytes b) where
-  pub reading : (r : Result Event MessageFault) → Decoding b r → Reading b r
-  reading (Ok e) d = (none_holds b whole d.1.0 d.1.1, d.0 ∙ event_same b whole d.1.0 d.1.1)
+  pub reading : (r : Result KnownEvent MessageFault) → Decoding b r → ReadingKnown b r
+  reading (Ok k) d = (none_holds b whole k.kind d.1, d.0 ∙ event_same b whole k.kind d.1)
   reading (Err f) d = comes b whole (bytes 0) f d
 
   -- the value takes no more bytes than the width
@@ -94,8 +96,8 @@ module _ (b : List ℕ) (whole : length b ≡ 16) (bytes : Bytes b) where
     pub packs-back : PacksBack b (event_at b)
     packs-back = subst (λ (e : Event). PacksBack b e) (sym same) packs-event
 
-  pub packing_back : (r : Result Event MessageFault) → Decoding b r → IfOk r (λ e. PacksBack b e)
-  packing_back (Ok e) d = subst (λ (x : Event). PacksBack b x) (sym d.0) (packs-back d.1.0 d.1.1)
+  pub packing_back : (r : Result KnownEvent MessageFault) → Decoding b r → IfOk r (λ k. PacksBack b k.event)
+  packing_back (Ok k) d = subst (λ (x : Event). PacksBack b x) (sym d.0) (packs-back k.kind d.1)
   packing_back (Err f) d = tt
 
 -- what was packed

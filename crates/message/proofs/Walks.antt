@@ -1,13 +1,13 @@
 -- The parts of a recording, one after the other.
-use Rattle.std.proofs.Common.{◌≡◌, ℕ, ◌+◌, ◌-◌, ◌*◌, ◌<◌, List, [], ◌∷◌, length, take, drop, sym, ap, ◌∙◌, subst, arith, Bor}
-use Rattle.std.proofs.lemmas.List.{take_all, take_rest, take-append-drop, drop_all, drop-drop, length-drop}
+use Rattle.std.proofs.Common.{◌≡◌, ℕ, ◌+◌, ◌-◌, ◌*◌, min, List, [], ◌∷◌, length, take, drop, sym, ap, ◌∙◌, subst, arith, Bor}
+use Rattle.std.proofs.lemmas.List.{take_min, take_rest, take-append-drop, drop_all, drop-drop}
 use Rattle.message.specs.Recordings.{part_at, Walk, joined, CountUp, Complete}
 use Rattle.message.specs.declared.recordings.Part.{Part}
 use Rattle.message.specs.declared.recordings.Recording.{Recording}
 
--- what is left of a list, where that is less than sixteen
-pub part_rest : (xs : List ℕ) (s : ℕ) → length xs - s < 16 → take (length xs - s) (drop s xs) ≡ take 16 (drop s xs)
-part_rest xs s few = take_rest xs s ∙ sym (take_all 16 (drop s xs) (omega (arith, length-drop s xs)))
+-- the first sixteen of what is left of a list from a place on
+pub part_rest : (xs : List ℕ) (s n : ℕ) → n ≡ min 16 (length (take (length xs - s) (drop s xs))) → take n (take (length xs - s) (drop s xs)) ≡ take 16 (drop s xs)
+part_rest xs s n few = rw few (take_min 16 (take (length xs - s) (drop s xs)) ∙ ap (take 16) (take_rest xs s))
 
 -- what is left of the recording goes out part by part
 rest_joined : (ps : List Part) (s : Recording) → Walk s ps → joined ps ≡ drop (16 * s.next) s.bytes.now

@@ -1,6 +1,7 @@
 -- The kinds of message: the number and the bit map of each.
-use Rattle.std.specs.Prelude.{ℕ, List, [], ◌∷◌, Some, None, Option, slice_index_or}
+use Rattle.std.specs.Prelude.{◌≡◌, ℕ, List, [], ◌∷◌, Some, None, Option, Result, MatchResult, slice_index_or}
 use Rattle.message.specs.declared.kinds.Kind.{Kind}
+use Rattle.message.specs.declared.kinds.UnknownKind.{UnknownKind}
 use Rattle.message.specs.declared.kinds.Kind.TheVariants.{Store, StrongFlush, WeakFlush, StoreFence, FullFence, Drain, Load, PowerCut}
 
 abbrev pub number_of : Kind → ℕ
@@ -34,3 +35,7 @@ kind_of n = slice_index_or kinds n None
 -- the map of the kind that has a number, 0 where none has
 abbrev pub map_for : ℕ → ℕ
 map_for n = elim (kind_of n) [ None ↦ 0 | Some k ↦ map_of k ]
+
+-- what a number is turned into: the kind that has it, or the number itself where none has
+abbrev pub NumberGives : ℕ → Result Kind UnknownKind → Type 0
+NumberGives n r = MatchResult r (λ k. kind_of n ≡ Some k) (λ u. (kind_of n ≡ None) × (u.0 ≡ n))

@@ -1,4 +1,5 @@
 pub mod Kinds
+pub mod KnownEvents
 pub mod Faults
 pub mod Refusals
 pub mod Format

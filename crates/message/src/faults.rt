@@ -4,16 +4,21 @@ ghost use Rattle.message.specs.Faults.{field_number, field_place, message_code, 
 ghost use Rattle.message.specs.declared.faults.MessageFault.TheVariants as message;
 ghost use Rattle.message.specs.declared.faults.PackFault.TheVariants as pack;
 
+use crate::kinds::UnknownKind;
+use crate::layers::Layer;
+use std::error::Error;
+use std::fmt;
+
 // A fault as the outside knows it: its number, the layer that found it, and where.
-#[derive(Clone, Copy, PartialEq, Eq, Debug)]
+#[derive(Clone, Copy, Debug, PartialEq, Eq, Hash)]
 pub struct FaultCode {
     pub number: u8,
-    pub layer: u8,
+    pub layer: Layer,
     pub place: u8,
 }
 
 // A field that no message may hold: what reading and packing both refuse.
-#[derive(Clone, Copy)]
+#[derive(Clone, Copy, Debug, PartialEq, Eq, Hash)]
 pub enum FieldFault {
     Thread,
     Address,
@@ -22,7 +27,7 @@ pub enum FieldFault {
 }
 
 // Bytes that are no message. An offset is that of the first byte at fault.
-#[derive(Clone, Copy)]
+#[derive(Clone, Copy, Debug, PartialEq, Eq, Hash)]
 pub enum MessageFault {
     Length,
     Map,
@@ -34,12 +39,28 @@ pub enum MessageFault {
 }
 
 // An event that no message carries, or memory too short for one.
-#[derive(Clone, Copy)]
+#[derive(Clone, Copy, Debug, PartialEq, Eq, Hash)]
 pub enum PackFault {
     Kind,
     Field(FieldFault),
     Value,
     Short,
+}
+
+impl From<UnknownKind> for MessageFault {
+    ghost from_gives = { λ _ m. m ≡ message.Kind };
+
+    fn from(_kind: UnknownKind) -> MessageFault {
+        MessageFault::Kind
+    }
+}
+
+impl From<UnknownKind> for PackFault {
+    ghost from_gives = { λ _ p. p ≡ pack.Kind };
+
+    fn from(_kind: UnknownKind) -> PackFault {
+        PackFault::Kind
+    }
 }
 
 impl From<FieldFault> for MessageFault {
@@ -82,11 +103,11 @@ impl FieldFault {
     }
 }
 
-impl MessageFault {
-    pub fn code(self) -> FaultCode
-        ensures { result ≡ message_code self }
-    {
-        let (number, place) = match self {
+impl From<MessageFault> for FaultCode {
+    ghost from_gives = { λ fault code. code ≡ message_code fault };
+
+    fn from(fault: MessageFault) -> FaultCode {
+        let (number, place) = match fault {
             MessageFault::Length => (1, 0),
             MessageFault::Map => (2, 0),
             MessageFault::Kind => (3, 1),
@@ -97,17 +118,17 @@ impl MessageFault {
         };
         FaultCode {
             number,
-            layer: 1,
+            layer: Layer::Message,
             place,
         }
     }
 }
 
-impl PackFault {
-    pub fn code(self) -> FaultCode
-        ensures { result ≡ pack_code self }
-    {
-        let number = match self {
+impl From<PackFault> for FaultCode {
+    ghost from_gives = { λ fault code. code ≡ pack_code fault };
+
+    fn from(fault: PackFault) -> FaultCode {
+        let number = match fault {
             PackFault::Kind => 3,
             PackFault::Field(fault) => fault.number(),
             PackFault::Value => 10,
@@ -115,8 +136,70 @@ impl PackFault {
         };
         FaultCode {
             number,
-            layer: 4,
+            layer: Layer::Call,
             place: 0,
         }
     }
 }
+
+impl fmt::Display for FaultCode {
+    fn fmt<W: fmt::Write>(&self, f: &mut fmt::Formatter<W>) -> fmt::Result {
+        let number = self.number;
+        let layer = self.layer;
+        let layer_number = u8::from(layer);
+        let place = self.place;
+        write!(f, "fault {number} of layer {layer_number} ({layer})")?;
+        match layer {
+            Layer::Message => write!(f, " at byte {place}"),
+            Layer::Buffers => write!(f, " at thread {place}"),
+            Layer::Case => write!(f, " at run {place}"),
+            Layer::Call => Ok(()),
+        }
+    }
+}
+
+impl fmt::Display for FieldFault {
+    fn fmt<W: fmt::Write>(&self, f: &mut fmt::Formatter<W>) -> fmt::Result {
+        f.write_str(match self {
+            FieldFault::Thread => "its thread is above 3",
+            FieldFault::Address => "its address is above 4095",
+            FieldFault::Width => "its width is not 1, 2, 4 or 8",
+            FieldFault::Unaligned => "its address is not a multiple of its width",
+        })
+    }
+}
+
+impl fmt::Display for MessageFault {
+    fn fmt<W: fmt::Write>(&self, f: &mut fmt::Formatter<W>) -> fmt::Result {
+        match self {
+            MessageFault::Length => f.write_str("it is not 16 bytes long"),
+            MessageFault::Map => f.write_str(
+                "bit 0 of its map is clear, or a bit of 5 to 7 is set",
+            ),
+            MessageFault::Kind => f.write_str("its kind is unknown"),
+            MessageFault::MapOfKind => f.write_str("its map is not that of its kind"),
+            MessageFault::Filler { offset: _ } => f.write_str("a filler byte is not 0"),
+            MessageFault::Field(fault) => write!(f, "{fault}"),
+            MessageFault::Value { offset: _ } => f.write_str(
+                "a value byte beyond the width is not 0",
+            ),
+        }
+    }
+}
+
+impl fmt::Display for PackFault {
+    fn fmt<W: fmt::Write>(&self, f: &mut fmt::Formatter<W>) -> fmt::Result {
+        match self {
+            PackFault::Kind => f.write_str("its kind is unknown"),
+            PackFault::Field(fault) => write!(f, "{fault}"),
+            PackFault::Value => f.write_str("its value takes more bytes than its width"),
+            PackFault::Short => f.write_str("the memory has fewer than 16 bytes"),
+        }
+    }
+}
+
+impl Error for FieldFault {}
+
+impl Error for MessageFault {}
+
+impl Error for PackFault {}

@@ -1,9 +1,12 @@
 // The eight kinds of message.
 ghost use Rattle.std.specs.Prelude.{◌≡◌};
 ghost use Rattle.message.specs.Format.{stands, fields_end};
-ghost use Rattle.message.specs.Kinds.{number_of, map_of, kind_of};
+ghost use Rattle.message.specs.Kinds.{number_of, map_of, NumberGives};
 
-#[derive(Clone, Copy)]
+use std::error::Error;
+use std::fmt;
+
+#[derive(Clone, Copy, Debug, PartialEq, Eq, PartialOrd, Ord, Hash)]
 pub enum Kind {
     Store = 1,
     StrongFlush = 2,
@@ -15,29 +18,50 @@ pub enum Kind {
     PowerCut = 8,
 }
 
-impl Kind {
-    // The kind that has a number, if any has.
-    pub fn of(number: u8) -> Option<Kind>
-        ensures { result ≡ kind_of number }
-    {
+// A number that no kind has.
+#[derive(Clone, Copy, Debug, PartialEq, Eq, Hash)]
+pub struct UnknownKind(pub u8);
+
+impl TryFrom<u8> for Kind {
+    type Error = UnknownKind;
+
+    ghost try_from_gives = { NumberGives };
+
+    fn try_from(number: u8) -> Result<Kind, UnknownKind> {
         match number {
-            1 => Some(Kind::Store),
-            2 => Some(Kind::StrongFlush),
-            3 => Some(Kind::WeakFlush),
-            4 => Some(Kind::StoreFence),
-            5 => Some(Kind::FullFence),
-            6 => Some(Kind::Drain),
-            7 => Some(Kind::Load),
-            8 => Some(Kind::PowerCut),
-            _ => None,
+            1 => Ok(Kind::Store),
+            2 => Ok(Kind::StrongFlush),
+            3 => Ok(Kind::WeakFlush),
+            4 => Ok(Kind::StoreFence),
+            5 => Ok(Kind::FullFence),
+            6 => Ok(Kind::Drain),
+            7 => Ok(Kind::Load),
+            8 => Ok(Kind::PowerCut),
+            _ => Err(UnknownKind(number)),
         }
     }
+}
 
-    pub fn number(self) -> u8
-        ensures { result ≡ number_of self }
-    {
-        self as u8
+impl From<Kind> for u8 {
+    ghost from_gives = { λ kind number. number ≡ number_of kind };
+
+    fn from(kind: Kind) -> u8 {
+        kind as u8
     }
+}
+
+impl Kind {
+    // The kinds in the order of their numbers.
+    pub const ALL: [Kind; 8] = [
+        Kind::Store,
+        Kind::StrongFlush,
+        Kind::WeakFlush,
+        Kind::StoreFence,
+        Kind::FullFence,
+        Kind::Drain,
+        Kind::Load,
+        Kind::PowerCut,
+    ];
 
     // The bit map of its messages.
     pub(crate) fn map(self) -> u8
@@ -86,3 +110,26 @@ impl Kind {
         }
     }
 }
+
+impl fmt::Display for Kind {
+    fn fmt<W: fmt::Write>(&self, f: &mut fmt::Formatter<W>) -> fmt::Result {
+        f.write_str(match self {
+            Kind::Store => "store",
+            Kind::StrongFlush => "strong flush",
+            Kind::WeakFlush => "weak flush",
+            Kind::StoreFence => "store fence",
+            Kind::FullFence => "full fence",
+            Kind::Drain => "drain",
+            Kind::Load => "load",
+            Kind::PowerCut => "power cut",
+        })
+    }
+}
+
+impl fmt::Display for UnknownKind {
+    fn fmt<W: fmt::Write>(&self, f: &mut fmt::Formatter<W>) -> fmt::Result {
+        write!(f, "no kind of message has number {}", self.0)
+    }
+}
+
+impl Error for UnknownKind {}

@@ -4,14 +4,22 @@
 mod events;
 mod faults;
 mod fields;
+mod followers;
 mod kinds;
+mod known;
+mod layers;
+mod memory;
 mod packing;
 mod reading;
 mod recordings;
 
 pub use events::Event;
 pub use faults::{FaultCode, FieldFault, MessageFault, PackFault};
-pub use kinds::Kind;
+pub use followers::{Follower, Reader};
+pub use kinds::{Kind, UnknownKind};
+pub use known::KnownEvent;
+pub use layers::Layer;
+pub use memory::{LINES, MEMORY, THREADS};
 pub use packing::pack;
 pub use reading::{MESSAGE_LEN, read};
 pub use recordings::{Part, Recording};

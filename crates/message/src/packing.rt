@@ -5,26 +5,13 @@ ghost use Rattle.message.specs.Fields.{IsWidth};
 ghost use Rattle.message.specs.Kinds.{map_of};
 ghost use Rattle.message.specs.Packing.{within, Packing};
 ghost use Rattle.message.specs.Trips.{ReadsBack};
+ghost use Rattle.message.specs.declared.kinds.Kind.{Kind};
 ghost use Rattle.message.specs.declared.faults.PackFault.TheVariants.{Short};
 
 use crate::events::Event;
 use crate::faults::PackFault;
-use crate::fields::check_fields;
-use crate::kinds::Kind;
+use crate::known::KnownEvent;
 use crate::reading::MESSAGE_LEN;
-
-// The event with 0 in each field that its kind lacks.
-fn carried(kind: Kind, event: &Event) -> Event
-    ensures { result ≡ within (map_of kind) event.now }
-{
-    Event {
-        kind: event.kind,
-        thread: if kind.has_thread() { event.thread } else { 0 },
-        address: if kind.has_address() { event.address } else { 0 },
-        width: if kind.has_value() { event.width } else { 0 },
-        value: if kind.has_value() { event.value } else { 0 },
-    }
-}
 
 // Whether a value takes no more bytes than its width.
 fn fits(value: u64, width: u8) -> bool
@@ -39,44 +26,59 @@ fn fits(value: u64, width: u8) -> bool
     }
 }
 
-// The bytes of an event whose lacking fields are 0, each field at its offset.
-fn bytes_at(kind: Kind, event: &Event) -> [u8; 16]
-    ensures { result ≡ bytes_at (map_of kind) event.now }
-{
-    let a = event.address.to_le_bytes();
-    let v = event.value.to_le_bytes();
-    [
-        kind.map(),
-        event.kind,
-        event.thread,
-        a[0],
-        a[1],
-        event.width,
-        v[0],
-        v[1],
-        v[2],
-        v[3],
-        v[4],
-        v[5],
-        v[6],
-        v[7],
-        0,
-        0,
-    ]
+impl KnownEvent {
+    // The event with 0 in each field that its kind lacks.
+    fn carried(&self) -> Event
+        ensures { result ≡ within (map_of self.now.kind) self.now.event }
+    {
+        let KnownEvent { kind, event } = self;
+        Event {
+            kind: event.kind,
+            thread: if kind.has_thread() { event.thread } else { 0 },
+            address: if kind.has_address() { event.address } else { 0 },
+            width: if kind.has_value() { event.width } else { 0 },
+            value: if kind.has_value() { event.value } else { 0 },
+        }
+    }
+
+    // Its message: each field at its offset, and 0 in those that the kind lacks.
+    fn bytes(&self) -> [u8; 16]
+        ensures { result ≡ bytes_at (map_of self.now.kind) (within (map_of self.now.kind) self.now.event) }
+    {
+        let event = self.carried();
+        let a = event.address.to_le_bytes();
+        let v = event.value.to_le_bytes();
+        [
+            self.kind.map(),
+            event.kind,
+            event.thread,
+            a[0],
+            a[1],
+            event.width,
+            v[0],
+            v[1],
+            v[2],
+            v[3],
+            v[4],
+            v[5],
+            v[6],
+            v[7],
+            0,
+            0,
+        ]
+    }
 }
 
 // The message of an event.
 fn encode(event: &Event) -> Result<[u8; 16], PackFault>
     ensures { MatchResult result (λ bytes. (k : Kind) × Encodes event.now k bytes) (λ f. NotEncoded event.now f) }
 {
-    let Some(kind) = Kind::of(event.kind) else {
-        return Err(PackFault::Kind);
-    };
-    check_fields(kind, event)?;
-    if kind.has_value() && !fits(event.value, event.width) {
+    let known = KnownEvent::try_from(*event)?;
+    known.check_fields()?;
+    if known.kind.has_value() && !fits(event.value, event.width) {
         return Err(PackFault::Value);
     }
-    Ok(bytes_at(kind, &carried(kind, event)))
+    Ok(known.bytes())
 }
 
 // Writes a message to the front of `out`, if it has room.

@@ -7,7 +7,7 @@ use crate::reading::MESSAGE_LEN;
 
 // A message of a recording as a part of the recording itself, with its ordinal from 0. The last part may be shorter than
 // a message; reading it refuses its length.
-#[derive(Clone, Copy)]
+#[derive(Clone, Copy, Debug, PartialEq, Eq, Hash)]
 pub struct Part<'a> {
     pub ordinal: usize,
     pub bytes: &'a [u8],
@@ -24,17 +24,12 @@ pub struct Recording<'a> {
 fn part_at(recording: &[u8], ordinal: usize) -> Option<&[u8]>
     ensures { MatchOption result (length recording.now ≤ 16 * ordinal) (λ p. PartOf recording.entry ordinal p) }
 {
-    if ordinal > recording.len() / MESSAGE_LEN {
-        return None;
-    }
-    let start = MESSAGE_LEN * ordinal;
+    let start = ordinal.checked_mul(MESSAGE_LEN)?;
     if start >= recording.len() {
         return None;
     }
-    if recording.len() - start < MESSAGE_LEN {
-        return Some(&recording[start..]);
-    }
-    Some(&recording[start..start + MESSAGE_LEN])
+    let rest = &recording[start..];
+    Some(&rest[..MESSAGE_LEN.min(rest.len())])
 }
 
 // The reader before its first step.

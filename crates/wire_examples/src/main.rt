@@ -1,92 +1,15 @@
 // Answers a table of examples, a line each, of reading, packing and taking a recording apart.
-//
-//     read HEX                                       the event, or the fault and why
-//     pack KIND THREAD ADDRESS WIDTH VALUE LENGTH    the memory of that length after packing, or the fault and the memory
-//     parts LENGTH                                   the parts of a recording of that length: ordinal, first byte, length
 #![tactic(auto)]
 
-mod table;
-
-use message::{Event, FaultCode, Recording, pack, read};
-use std::alloc::Global;
-use table::{Row, row_of};
-use wording::Reason;
-
-// What the memory holds before packing.
-const UNWRITTEN: u8 = 0xaa;
-
-fn answer_read(rt: &HostRuntime, message: &[u8]) -> anyhow::Result<()> {
-    match read(message) {
-        Ok(
-            Event {
-                kind,
-                thread,
-                address,
-                width,
-                value,
-            },
-        ) => {
-            println!(rt; "event {kind} {thread} {address} {width} {value}")?;
-        }
-        Err(fault) => {
-            let FaultCode {
-                number,
-                layer,
-                place,
-            } = fault.code();
-            let reason = Reason(fault);
-            println!(rt; "fault {number} {layer} {place}: {reason}")?;
-        }
-    }
-    Ok(())
-}
-
-fn answer_pack(rt: &HostRuntime, heap: Global, event: &Event, length: usize) -> anyhow::Result<()> {
-    let mut memory = vec![in heap; UNWRITTEN; length]?;
-    match pack(event, memory.as_mut_slice()) {
-        Ok(()) => print!(rt; "packed ")?,
-        Err(fault) => {
-            let FaultCode {
-                number,
-                layer,
-                place,
-            } = fault.code();
-            print!(rt; "fault {number} {layer} {place} ")?;
-        }
-    }
-    for b in memory.iter() {
-        print!(rt; "{b:02x}")?;
-    }
-    println!(rt; "")?;
-    Ok(())
-}
-
-// The bytes of the recording count up from 0.
-fn answer_parts(rt: &HostRuntime, heap: Global, length: usize) -> anyhow::Result<()> {
-    let mut recording = Vec::new(heap);
-    for i in 0..length {
-        recording.push((i % 256) as u8)?;
-    }
-    print!(rt; "parts")?;
-    for part in Recording::new(recording.as_slice()) {
-        let ordinal = part.ordinal;
-        let first = part.bytes.first().copied().unwrap_or(0);
-        let len = part.bytes.len();
-        print!(rt; " {ordinal}:{first}:{len}")?;
-    }
-    println!(rt; "")?;
-    Ok(())
-}
+use wire_rows::Row;
 
 fn main(rt: HostRuntime) -> anyhow::Result<()> {
     let heap = rt.alloc();
     for line in rt.lines(heap) {
         let line = line?;
-        match row_of(heap, line.as_str())? {
-            Row::Read(message) => answer_read(&rt, message.as_slice())?,
-            Row::Pack(event, length) => answer_pack(&rt, heap, &event, length)?,
-            Row::Parts(length) => answer_parts(&rt, heap, length)?,
-        }
+        let row = Row::try_from(line.as_str())?;
+        let answer = row.answer(heap)?;
+        println!(rt; "{answer}")?;
     }
     Ok(())
 }

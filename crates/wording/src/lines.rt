@@ -1,68 +1,47 @@
 // The lines of a listing.
+ghost use Rattle.message.specs.KnownEvents.{ReadingKnown};
 ghost use Rattle.wording.specs.Lines.{Listed};
 
 use crate::tally::Tally;
-use crate::words::{Reason, Told};
-use message::{Event, FaultCode, Kind, MessageFault, read};
+use message::{FaultCode, Follower, KnownEvent, MessageFault, Reader};
 use std::fmt;
 
-// What a listing says of one message, with its ordinal.
+// What a listing says of one message: its ordinal, and the event that it carries or why it is refused.
 #[derive(Clone, Copy)]
-pub enum Line {
-    Message {
-        ordinal: u64,
-        kind: Kind,
-        event: Event,
-    },
-    Refusal {
-        ordinal: u64,
-        fault: MessageFault,
-    },
+pub struct Line<F> {
+    pub ordinal: u64,
+    pub said: Result<KnownEvent, F>,
 }
 
-// The line of the next message, which is counted unless it is refused.
-pub fn list(message: &[u8], tally: &mut Tally) -> Line
-    ensures { Listed tally.old message.now result tally.new }
+// The line of the next message that a follower is given, which is counted unless it is refused.
+pub fn list_by<T: Follower>(follower: &mut T, message: &[u8], tally: &mut Tally) -> Line<T::Fault>
+    ensures follows { T.follows follower.old message.now result.said follower.new }
+    ensures listed { Listed tally.old result tally.new }
 {
     let ordinal = tally.messages;
-    match read(message) {
-        Ok(event) => {
-            let Some(kind) = Kind::of(event.kind) else {
-                unreachable()
-            };
-            tally.note(kind);
-            Line::Message {
-                ordinal,
-                kind,
-                event,
-            }
-        }
-        Err(fault) => Line::Refusal { ordinal, fault },
+    let said = follower.follow(message);
+    if let Ok(known) = said {
+        tally.note(known.kind);
     }
+    Line { ordinal, said }
 }
 
-impl fmt::Display for Line {
+// The line of the next message, which is read and no more.
+pub fn list(message: &[u8], tally: &mut Tally) -> Line<MessageFault>
+    ensures reads { ReadingKnown message.now result.said }
+    ensures listed { Listed tally.old result tally.new }
+{
+    list_by(&mut Reader, message, tally)
+}
+
+impl<F: Copy + fmt::Display + Into<FaultCode>> fmt::Display for Line<F> {
     fn fmt<W: fmt::Write>(&self, f: &mut fmt::Formatter<W>) -> fmt::Result {
-        match *self {
-            Line::Message {
-                ordinal,
-                kind,
-                event,
-            } => {
-                let told = Told { kind, event };
-                write!(f, "{ordinal}: {told}")
-            }
-            Line::Refusal { ordinal, fault } => {
-                let reason = Reason(fault);
-                let FaultCode {
-                    number,
-                    layer,
-                    place,
-                } = fault.code();
-                write!(
-                    f,
-                    "{ordinal}: refused, since {reason}: fault {number} of layer {layer} (message) at byte {place}"
-                )
+        let ordinal = self.ordinal;
+        match self.said {
+            Ok(known) => write!(f, "{ordinal}: {known}"),
+            Err(fault) => {
+                let code: FaultCode = fault.into();
+                write!(f, "{ordinal}: refused, since {fault}: {code}")
             }
         }
     }

@@ -4,12 +4,13 @@ ghost use Rattle.message.specs.Kinds.{number_of};
 ghost use Rattle.wording.specs.Counts.{Noted, count_of};
 
 use message::Kind;
+use std::fmt;
 
 const KINDS: usize = 8;
 
 // How many messages in all, and of each kind in the order of their numbers. A count stays at the largest number once it
 // is there.
-#[derive(Clone, Copy)]
+#[derive(Clone, Copy, Debug, PartialEq, Eq, Hash)]
 pub struct Tally {
     pub messages: u64,
     counts: [u64; KINDS],
@@ -19,7 +20,7 @@ fn place(kind: Kind) -> usize
     ensures place { result ≡ number_of kind - 1 }
     ensures within { result < 8 }
 {
-    kind.number() as usize - 1
+    kind as usize - 1
 }
 
 // One more, up to the largest number.
@@ -53,5 +54,16 @@ impl Tally {
         self.messages = raised(self.messages);
         let i = place(kind);
         self.counts[i] = raised(self.counts[i]);
+    }
+}
+
+// A line for each kind.
+impl fmt::Display for Tally {
+    fn fmt<W: fmt::Write>(&self, f: &mut fmt::Formatter<W>) -> fmt::Result {
+        for kind in Kind::ALL {
+            let count = self.of(kind);
+            writeln!(f, "  {kind}: {count}")?;
+        }
+        Ok(())
     }
 }

@@ -1,17 +1,5 @@
-use Rattle.std.proofs.Common.{length, refl}
-use Rattle.std.proofs.lemmas.Result.{err_from_is_err_and}
-use Rattle.message.proofs.PackOrders.{pack_comes}
 use Rattle.message.proofs.Trips.{written}
 use Rattle.message.proofs.packing.pack.Goals as goal
-
-pub returns-in_err-message : goal.returns-in_err-message
-returns-in_err-message c =
-    let p = err_from_is_err_and c.from_residual.result c.from_residual.ensures.1 in
-    rw (p.1, p.2)
-    (record {
-      packs = (pack_comes c.args.event.now (length c.args.out.now) c.in_err-message.field-0.0 c.in_err-message.ensures, refl);
-      reads = tt;
-    })
 
 pub returns : goal.returns
 returns c =

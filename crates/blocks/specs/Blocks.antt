@@ -1,0 +1,15 @@
+-- What comes in, where the bytes that the input will give are known.
+use Rattle.std.specs.Prelude.{◌≡◌, ℕ, ◌+◌, ◌<◌, ◌≤◌, ◌⊎◌, List, length, take, Some, None, Ok, Err, Option, Result}
+use Rattle.std.specs.Io.KnownBytes.{Consumes, IsAtEnd}
+use Rattle.arrayvec.specs.ArrayVec.{ArrayVec}
+
+-- n bytes came into a block from the front of what the input has, and fewer than it has room for only at the end
+abbrev pub Fills : Option (List ℕ) → Option (List ℕ) → ℕ → List ℕ → Type 0
+Fills before after n block = (n ≤ length block) × Consumes before after (take n block) × (n < length block → IsAtEnd after)
+
+-- A block is 1,024 bytes from the front of what the input has, or what is left of it, and is the last then. None comes where
+-- nothing was left, or no more blocks may come; how many may come goes down by one with each block that is not the last.
+abbrev pub Comes : {E : Type 0} → ℕ → Option (List ℕ) → Option (Result (ArrayVec ℕ) E) → ℕ → Option (List ℕ) → Type 0
+Comes more before None more' after = IsAtEnd before ⊎ (more ≡ 0)
+Comes more before (Some (Err e)) more' after = more' + 1 ≡ more
+Comes more before (Some (Ok m)) more' after = (0 < length m.items) × (length m.items ≤ 1024) × Consumes before after m.items × (length m.items < 1024 → IsAtEnd after) × (length m.items ≡ 1024 → more' + 1 ≡ more)

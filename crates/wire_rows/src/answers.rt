@@ -1,0 +1,111 @@
+// What is answered to a row.
+ghost use Rattle.std.specs.Prelude.{IfOk};
+ghost use Rattle.wire_rows.specs.Answers.{Answers, CountsUp};
+
+use crate::hex::bytes_of;
+use crate::rows::Row;
+use message::{Event, FaultCode, MessageFault, PackFault, Recording, pack, read};
+use std::alloc::{AllocError, Global};
+use std::fmt;
+
+// What the memory holds before packing.
+const UNWRITTEN: u8 = 0xaa;
+
+#[derive(Drop)]
+pub enum Answer {
+    Read(Result<Event, MessageFault>),
+    Pack {
+        packed: Result<(), PackFault>,
+        memory: Vec<u8>,
+    },
+    Parts(Vec<u8>),
+}
+
+// A recording of a length, whose bytes count up from 0.
+fn counting(heap: Global, length: usize) -> Result<Vec<u8>, AllocError>
+    ensures { IfOk result (λ bytes. CountsUp length bytes.items) }
+{
+    (0..length).map(|i| (i % 256) as u8).collect(heap)
+}
+
+impl<'a> Row<'a> {
+    pub fn answer(self, heap: Global) -> anyhow::Result<Answer>
+        ensures { IfOk result (λ answer. Answers self.entry answer) }
+    {
+        match self {
+            Row::Read(hex) => {
+                let message = bytes_of(heap, hex)?;
+                Ok(Answer::Read(read(message.as_slice())))
+            }
+            Row::Pack { event, length } => {
+                let mut memory = vec![in heap; UNWRITTEN; length]?;
+                let packed = pack(&event, memory.as_mut_slice());
+                Ok(Answer::Pack { packed, memory })
+            }
+            Row::Parts { length } => {
+                let recording = counting(heap, length)?;
+                Ok(Answer::Parts(recording))
+            }
+        }
+    }
+}
+
+// A fault by its numbers.
+#[derive(Clone, Copy)]
+struct Code(FaultCode);
+
+impl fmt::Display for Code {
+    fn fmt<W: fmt::Write>(&self, f: &mut fmt::Formatter<W>) -> fmt::Result {
+        let FaultCode {
+            number,
+            layer,
+            place,
+        } = self.0;
+        let layer = u8::from(layer);
+        write!(f, "fault {number} {layer} {place}")
+    }
+}
+
+impl fmt::Display for Answer {
+    fn fmt<W: fmt::Write>(&self, f: &mut fmt::Formatter<W>) -> fmt::Result {
+        match self {
+            Answer::Read(Ok(event)) => {
+                let Event {
+                    kind,
+                    thread,
+                    address,
+                    width,
+                    value,
+                } = event;
+                write!(f, "event {kind} {thread} {address} {width} {value}")
+            }
+            Answer::Read(Err(fault)) => {
+                let code = Code(FaultCode::from(*fault));
+                write!(f, "{code}: {fault}")
+            }
+            Answer::Pack { packed, memory } => {
+                match packed {
+                    Ok(()) => write!(f, "packed ")?,
+                    Err(fault) => {
+                        let code = Code(FaultCode::from(*fault));
+                        write!(f, "{code} ")?;
+                    }
+                }
+                for b in memory {
+                    write!(f, "{b:02x}")?;
+                }
+                Ok(())
+            }
+            Answer::Parts(recording) => {
+                write!(f, "parts")?;
+                for part in Recording::new(recording.as_slice()) {
+                    let ordinal = part.ordinal;
+                    let first = part.bytes.first().copied().unwrap_or(0);
+                    let len = part.bytes.len();
+                    write!(f, " {ordinal}:{first}:{len}")?;
+                }
+                Ok(())
+            }
+        }
+    }
+}
