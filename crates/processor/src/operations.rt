@@ -1,6 +1,7 @@
 // What a message asks of the processor.
 ghost use Rattle.std.specs.Prelude.{◌≡◌, MatchResult};
 ghost use Rattle.processor.specs.Logging.{Heard, NotHeard};
+ghost use Rattle.processor.specs.Memory.{InLine};
 ghost use Rattle.processor.specs.Operations.{access_of, operation, InRange};
 
 use crate::accesses::Access;
@@ -19,6 +20,7 @@ pub enum Operation {
 
 // The bytes that a store or load names.
 fn access_of(event: &Event) -> Access
+    requires { InLine (access_of event.now) }
     ensures { result ≡ access_of event.now }
 {
     let value = event.value.to_le_bytes();
