@@ -144,7 +144,7 @@ sound_counted o m i none s =
       recorded = recorded (step o m) k;
       fitting = k.fitting;
       waiting = k.waiting;
-      facts = counted-facts m (step o m) o (step o m).accepted refl (accepted_step o m) (facts m s) (facts (step o m) k) i none;
+      facts = counted-facts m (step o m) o ((step o m).accepted + 1) refl (omega (arith, accepted_step o m)) (facts m s) (facts (step o m) k) i none;
     })
 
 -- ── messages ──

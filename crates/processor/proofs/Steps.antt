@@ -45,13 +45,13 @@ accepted_step PowerCut m = refl
 pub bound_small : (m : Machine) → Facts m → bound m ≤ 1444
 bound_small m f = omega (arith, f.cuts, f.moments, few_wait m f, f.loads)
 
--- what is done may be counted: `a` messages were accepted before
-module _ (m n : Machine) (o : Operation) (a : ℕ) (done : n ≡ step o m) (before : a ≡ m.accepted) where
-  pub counted_is : machine_with n.run n.left n.waits n.loads (a + 1) ≡ counted (step o m)
-  counted_is = ap₂ (λ (x : Machine) (k : ℕ). machine_with x.run x.left x.waits x.loads (k + 1)) done (before ∙ sym (accepted_step o m))
+-- what is done, with a count of the messages accepted
+module _ (m n : Machine) (o : Operation) (a : ℕ) (done : n ≡ step o m) where
+  pub counted_is : a ≡ m.accepted + 1 → machine_with n.run n.left n.waits n.loads a ≡ counted (step o m)
+  counted_is one = ap₂ (λ (x : Machine) (k : ℕ). machine_with x.run x.left x.waits x.loads k) done (one ∙ ap (λ k. k + 1) (sym (accepted_step o m)))
 
-  pub counted-facts : Facts m → Facts n → InRange o → NoneHolds (Refuses m o) → Facts (machine_with n.run n.left n.waits n.loads (a + 1))
-  counted-facts f g i none = record {
+  pub counted-facts : a ≤ m.accepted + 1 → Facts m → Facts n → InRange o → NoneHolds (Refuses m o) → Facts (machine_with n.run n.left n.waits n.loads a)
+  counted-facts one f g i none = record {
     loaded = g.loaded;
     counted = omega (arith, f.counted, bound-step m o i f none, ap bound done);
     four = g.four;

@@ -1,4 +1,4 @@
-use Rattle.std.proofs.Common.{refl, ap, ◌∙◌, arith}
+use Rattle.std.proofs.Common.{ap, ◌∙◌, arith}
 use Rattle.processor.specs.Machine.{Machine}
 use Rattle.processor.proofs.Steps.{bound_small, counted_is, counted-facts}
 use Rattle.processor.proofs.processor.Processor.follow.Goals as goal
@@ -8,8 +8,11 @@ overflow_add-accepted c = omega (arith, c.self.invariant.counted, bound_small _ 
 
 pub invariant_of-self : goal.invariant_of-self
 invariant_of-self c =
-    counted-facts _ _ c.args.operation c.self.inside.accepted (rw c.self.view_is (c.self-2.view_is ∙ c.in_ok-perform.ensures.1)) refl c.self.invariant c.self-2.invariant c.requires (rw c.self.view_is c.in_ok-perform.ensures.0)
+    let m = c.args.self.now in
+    let before = ap (λ (x : Machine). x.accepted) c.self.view_is in
+    counted-facts m _ c.args.operation _ (c.self-2.view_is ∙ c.in_ok-perform.ensures.1) (omega arith) (rw (← c.self.view_is) c.self.invariant) c.self-2.invariant c.requires c.in_ok-perform.ensures.0
 
 pub returns : goal.returns
 returns c =
-    (c.in_ok-perform.ensures.0, counted_is c.args.self.now _ c.args.operation c.self.inside.accepted (c.self-2.view_is ∙ c.in_ok-perform.ensures.1) (ap (λ (m : Machine). m.accepted) c.self.view_is))
+    let before = ap (λ (x : Machine). x.accepted) c.self.view_is in
+    (c.in_ok-perform.ensures.0, counted_is c.args.self.now _ c.args.operation _ (c.self-2.view_is ∙ c.in_ok-perform.ensures.1) (omega arith))
