@@ -1,3 +1,4 @@
+pub mod Threads
 pub mod Memory
 pub mod Entries
 pub mod Faults

@@ -1,13 +1,12 @@
 // The four threads' store buffers: at most eight waiting entries each, oldest first.
 use crate::entries::Entry;
+use crate::threads::THREADS;
 use tables::Table;
 
 mod ops;
 
 // How many entries may wait in one buffer.
 const ROOM: usize = 8;
-
-pub(crate) const THREADS: usize = 4;
 
 // One table, a row for each thread.
 #[derive(Drop)]

@@ -4,9 +4,9 @@ ghost use Rattle.processor.specs.Departures.{count, floor, raised};
 ghost use Rattle.processor.specs.FloorPass.{noted, passed, unflushed};
 ghost use Rattle.processor.specs.History.{OfThreads};
 
-use crate::buffers::THREADS;
 use crate::departures::Departure;
 use crate::entries::Entry;
+use crate::threads::THREADS;
 
 // What decides a thread's flushes of one line, after a part of a run: the moments of its last fence and of its last cached
 // store or strong flush on the line, and the largest mark of the line in its flush set.

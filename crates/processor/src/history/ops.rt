@@ -9,6 +9,7 @@ use crate::departures::Departure;
 use crate::entries::Entry;
 use crate::floors::{count_of, floor_of};
 use crate::sources::{Source, last_cached};
+use crate::threads::Thread;
 use tables::Table;
 
 const NO_DEPARTURE: Departure = Departure {
@@ -71,9 +72,8 @@ impl History {
     }
 
     // An entry of a thread leaves at the next moment of the present run.
-    pub(crate) fn leave(&mut self, thread: u8, entry: Entry)
-        requires thread { thread < 4 }
-        requires room { length self.old.left < 512 }
+    pub(crate) fn leave(&mut self, thread: Thread, entry: Entry)
+        requires { length self.old.left < 512 }
         ensures { self.new ≡ left_next thread entry self.old }
     {
         let moment = self.present_count + 1;
@@ -81,7 +81,7 @@ impl History {
         let Ok(()) = self.left.push(Departure {
             run,
             moment,
-            thread,
+            thread: u8::from(thread),
             entry,
         })
         else {

@@ -2,7 +2,7 @@
 ghost use Rattle.std.specs.Prelude.{◌≡◌, ◌+◌, ◌<◌, length};
 ghost use Rattle.processor.specs.Laws.{Laws};
 ghost use Rattle.processor.specs.Machine.{opened, acted, drained, fenced, row};
-ghost use Rattle.processor.specs.Operations.{Performs, InRange};
+ghost use Rattle.processor.specs.Operations.{Performs};
 ghost use Rattle.processor.specs.Sources.{source, source_within, sources_of};
 ghost use Rattle.processor.specs.declared.operations.Operation.TheVariants as asked;
 
@@ -15,6 +15,7 @@ use crate::history::{CUTS, History, MOMENTS};
 use crate::loads::Load;
 use crate::operations::Operation;
 use crate::sources::{Source, last_waiting};
+use crate::threads::Thread;
 use std::array;
 use tables::Table;
 
@@ -44,18 +45,16 @@ impl Processor {
     }
 
     // An entry of a thread takes the next moment and acts.
-    fn act(&mut self, thread: u8, entry: Entry)
-        requires thread { thread < 4 }
-        requires room { length self.old.left < 512 }
+    fn act(&mut self, thread: Thread, entry: Entry)
+        requires { length self.old.left < 512 }
         ensures { self.new ≡ acted thread entry self.old }
     {
         self.history.leave(thread, entry);
     }
 
     // The oldest entry of a thread leaves; where none waits, nothing changes.
-    fn leave(&mut self, thread: u8)
-        requires thread { thread < 4 }
-        requires room { length self.old.left < 512 }
+    fn leave(&mut self, thread: Thread)
+        requires { length self.old.left < 512 }
         ensures { self.new ≡ drained thread self.old }
     {
         if let Some(entry) = self.buffers.drain(thread) {
@@ -64,9 +63,8 @@ impl Processor {
     }
 
     // All of the thread's entries leave in order, and then the fence takes a moment.
-    fn fence(&mut self, thread: u8)
-        requires thread { thread < 4 }
-        requires room { length self.old.left + length (row self.old thread) < 512 }
+    fn fence(&mut self, thread: Thread)
+        requires { length self.old.left + length (row self.old thread) < 512 }
         ensures { self.new ≡ fenced thread self.old }
     {
         for _ in 0..self.buffers.row(thread).len() {
@@ -76,8 +74,7 @@ impl Processor {
     }
 
     // Which store of the present run gives a thread the byte at an address.
-    fn source(&self, thread: u8, at: u16) -> Option<Source>
-        requires { thread < 4 }
+    fn source(&self, thread: Thread, at: u16) -> Option<Source>
         ensures { result ≡ source self.now thread at }
     {
         let waiting = last_waiting(self.buffers.row(thread), at);
@@ -85,8 +82,7 @@ impl Processor {
     }
 
     // The same for the byte of an access at a place, if it has one there.
-    fn source_within(&self, thread: u8, access: &Access, place: usize) -> Option<Source>
-        requires { thread < 4 }
+    fn source_within(&self, thread: Thread, access: &Access, place: usize) -> Option<Source>
         ensures { result ≡ source_within self.now thread access.now place }
     {
         if place < access.width as usize {
@@ -97,16 +93,14 @@ impl Processor {
     }
 
     // The same for each byte of an access.
-    fn sources(&self, thread: u8, access: &Access) -> [Option<Source>; 8]
-        requires { thread < 4 }
+    fn sources(&self, thread: Thread, access: &Access) -> [Option<Source>; 8]
         ensures { result ≡ sources_of self.now thread access.now }
     {
         array::from_fn(|place| self.source_within(thread, access, place))
     }
 
     // An entry enters its thread's buffer.
-    fn enter(&mut self, thread: u8, entry: Entry) -> Result<(), CaseFault>
-        requires { InRange (asked.Enter thread entry) }
+    fn enter(&mut self, thread: Thread, entry: Entry) -> Result<(), CaseFault>
         ensures { Performs (asked.Enter thread entry) self.old result self.new }
     {
         self.buffers.push(thread, entry)?;
@@ -114,12 +108,13 @@ impl Processor {
     }
 
     // The oldest of a thread's waiting entries leaves.
-    fn drain(&mut self, thread: u8) -> Result<(), CaseFault>
-        requires { InRange (asked.Drain thread) }
+    fn drain(&mut self, thread: Thread) -> Result<(), CaseFault>
         ensures { Performs (asked.Drain thread) self.old result self.new }
     {
         if self.buffers.row(thread).is_empty() {
-            return Err(CaseFault::Buffer(BufferFault::Empty { thread }));
+            return Err(CaseFault::Buffer(BufferFault::Empty {
+                thread: u8::from(thread),
+            }));
         }
         if self.history.taken() >= MOMENTS {
             return Err(CaseFault::Moments {
@@ -131,8 +126,7 @@ impl Processor {
     }
 
     // A full fence, unless the moments that it needs are too many.
-    fn full_fence(&mut self, thread: u8) -> Result<(), CaseFault>
-        requires { InRange (asked.FullFence thread) }
+    fn full_fence(&mut self, thread: Thread) -> Result<(), CaseFault>
         ensures { Performs (asked.FullFence thread) self.old result self.new }
     {
         let leaving = self.buffers.row(thread).len();
@@ -146,15 +140,14 @@ impl Processor {
     }
 
     // A load is kept, with the stores of this run that give its bytes.
-    fn keep_load(&mut self, thread: u8, access: Access) -> Result<(), CaseFault>
-        requires { InRange (asked.Load thread access) }
+    fn keep_load(&mut self, thread: Thread, access: Access) -> Result<(), CaseFault>
         ensures { Performs (asked.Load thread access) self.old result self.new }
     {
         let run = self.history.run();
         let sources = self.sources(thread, &access);
         let load = Load {
             run,
-            thread,
+            thread: u8::from(thread),
             access,
             sources,
         };
@@ -177,7 +170,6 @@ impl Processor {
 
     // What a message asks.
     pub(super) fn perform(&mut self, operation: Operation) -> Result<(), CaseFault>
-        requires { InRange operation }
         ensures { Performs operation self.old result self.new }
     {
         match operation {

@@ -4,10 +4,10 @@ ghost use Rattle.processor.specs.Departures.{count, floor};
 ghost use Rattle.processor.specs.Machine.{row};
 
 use super::Processor;
-use crate::buffers::THREADS;
 use crate::departures::Departure;
 use crate::entries::Entry;
 use crate::loads::Load;
+use crate::threads::Thread;
 
 impl Processor {
     // The number of the present run, and so of the cuts made.
@@ -56,10 +56,9 @@ impl Processor {
     pub fn waiting(&self, thread: u8) -> &[Entry]
         ensures { result.now ≡ row self.now thread }
     {
-        if (thread as usize) < THREADS {
-            self.buffers.row(thread)
-        } else {
-            &[]
+        match Thread::try_from(thread) {
+            Ok(thread) => self.buffers.row(thread),
+            Err(_) => &[],
         }
     }
 }
