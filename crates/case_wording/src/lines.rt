@@ -1,5 +1,4 @@
 // The lines of a listing.
-ghost use Rattle.processor.specs.MachineView.{machine_of};
 ghost use Rattle.case_wording.specs.Lines.{Listed};
 
 use crate::words::CaseReason;
@@ -24,7 +23,7 @@ pub enum Line {
 
 // Logs the next message in a case, and gives its line. It is counted unless it is refused.
 pub fn list(message: &[u8], processor: &mut Processor, tally: &mut Tally) -> Line
-    ensures { Listed (machine_of processor.old) tally.old message.now result (machine_of processor.new) tally.new }
+    ensures { Listed processor.old tally.old message.now result processor.new tally.new }
 {
     let ordinal = tally.messages;
     if let Err(fault) = processor.log(message) {

@@ -2,7 +2,8 @@
 use Rattle.std.proofs.Common.{◌≡◌, ℕ, zero, suc, ◌+◌, ◌*◌, ◌<◌, ◌≤◌, List, [], ◌∷◌, ◌++◌, length, get_or, set, refl, ap, inl, inr, le_of_suc-le-suc, not-suc-le-zero, add-mul, arith}
 use Rattle.std.proofs.lemmas.List.{get_or_past, length_push}
 use Rattle.std.proofs.lemmas.Bool.{cases_lt}
-use Rattle.processor.specs.Machine.{Machine, row, departure, with_row, entered, acted, drained_from, drained_by, fenced, kept, cut}
+use Rattle.processor.specs.Departures.{departure}
+use Rattle.processor.specs.Machine.{Machine, row, with_row, entered, acted, drained_from, drained_by, fenced, kept, cut}
 use Rattle.processor.specs.Sound.{bound}
 use Rattle.processor.specs.Waiting.{total}
 use Rattle.processor.specs.declared.entries.Entry.{Entry}

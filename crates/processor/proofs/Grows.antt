@@ -2,9 +2,9 @@
 use Rattle.std.proofs.Common.{◌≡◌, ℕ, zero, suc, ◌≤◌, eqb, List, [], ◌∷◌, ◌++◌, reverse, length, sym, refl, ap, ◌∙◌, append_assoc, append-nil, arith}
 use Rattle.std.proofs.lemmas.List.{get_or-set_other, reverse-append}
 use Rattle.std.proofs.lemmas.Bool.{ne_eqb, cond-false}
-use Rattle.processor.specs.Departures.{of_run, mark, set_after, set_mark, flush_set}
+use Rattle.processor.specs.Departures.{of_run, departure, mark, set_after, set_mark, flush_set}
 use Rattle.processor.specs.Growth.{Grown, OthersStay}
-use Rattle.processor.specs.Machine.{Machine, row, departure, with_row, entered, acted, drained_from, drained_by, fenced, kept, cut, counted}
+use Rattle.processor.specs.Machine.{Machine, row, with_row, entered, acted, drained_from, drained_by, fenced, kept, cut, counted}
 use Rattle.processor.specs.Operations.{step}
 use Rattle.processor.specs.Sources.{load_of}
 use Rattle.processor.specs.declared.departures.Departure.{Departure}

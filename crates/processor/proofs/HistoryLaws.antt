@@ -3,10 +3,9 @@ use Rattle.std.proofs.Common.{◌≡◌, ℕ, suc, ◌+◌, ◌<◌, ◌≤◌, 
 use Rattle.std.proofs.lemmas.List.Elements.{filter-append}
 use Rattle.std.proofs.lemmas.List.{length_push, get_or_push, get_or_append_left, get_or_past, take-append-le, take_at}
 use Rattle.std.proofs.lemmas.Bool.{cases_lt, eq-eqb, ne_eqb, cond-true, cond-false}
-use Rattle.processor.specs.Departures.{of_run, count}
-use Rattle.processor.specs.History.{no_departure, left_at, Placed, Fitting, InTurn, Dated}
-use Rattle.processor.specs.Machine.{departure}
-use Rattle.processor.specs.Memory.{Fits, fits}
+use Rattle.processor.specs.Departures.{of_run, count, departure}
+use Rattle.processor.specs.Entries.{Fits, fits}
+use Rattle.processor.specs.History.{Past, left_next, closed, no_departure, left_at, Fitting, Dated, Recorded, Counts}
 use Rattle.processor.specs.declared.departures.Departure.{Departure}
 use Rattle.processor.specs.declared.entries.Entry.{Entry}
 use Rattle.processor.proofs.Fitting.{so_fits}
@@ -38,25 +37,17 @@ none_yet r (d ∷ D) h =
     ap (λ (l : List Departure). length l) (cond-false (eqb d.run r) (d ∷ of_run r D) (of_run r D) (ne_eqb d.run r (λ e. absurd (omega arith)))) ∙ none_yet r D (λ i l. h (suc i) (omega arith))
 
 -- ── the facts together ──
-pub record Recorded (run : ℕ) (D : List Departure) : Type 0 where
-  pub placed : Placed run D
-  pub fitting : Fitting D
-  pub in_turn : InTurn D
-  pub dated : Dated D
-
 pub recorded_none : (run : ℕ) → Recorded run []
 recorded_none run = record {
   placed = λ i l. absurd (omega arith);
-  fitting = λ i. subst (λ (d : Departure). fits d.entry ≡ true) (sym (get_or_past {X = Departure} [] i no_departure (omega arith))) refl;
   in_turn = λ i j (l, m). absurd (omega arith);
   dated = λ i l. absurd (omega arith);
 }
 
 pub recorded_later : (run : ℕ) (D : List Departure) → Recorded run D → Recorded (run + 1) D
-recorded_later run D h = record
-    { placed = λ i l. (omega (arith, (h.placed i l).0), (h.placed i l).1); fitting = h.fitting; in_turn = h.in_turn; dated = h.dated }
+recorded_later run D h = record { placed = λ i l. (omega (arith, (h.placed i l).0), (h.placed i l).1); in_turn = h.in_turn; dated = h.dated }
 
-module _ (run : ℕ) (D : List Departure) (h : Recorded run D) (t : ℕ) (e : Entry) (four : t < 4) (fit : Fits e) where
+module _ (run : ℕ) (D : List Departure) (h : Recorded run D) (t : ℕ) (e : Entry) (four : t < 4) where
   abbrev new : Departure
   new = departure run D t e
 
@@ -76,7 +67,28 @@ module _ (run : ℕ) (D : List Departure) (h : Recorded run D) (t : ℕ) (e : En
   pub recorded_push : Recorded run (D ++ new ∷ [])
   recorded_push = record {
     placed = at_push D new no_departure (λ d. (d.run ≤ run) × (d.thread < 4)) h.placed (omega arith, four);
-    fitting = all_push D new no_departure (λ d. fits d.entry ≡ true) h.fitting (so_fits e fit) refl;
     in_turn = λ i j (l, m). related_push no_departure (λ x y. x.run ≤ y.run) D new (λ i j l m. h.in_turn i j (l, m)) (λ i l. (h.placed i l).0) i j l m;
     dated = dated_push;
   }
+
+-- ── entries that fit ──
+pub fitting_none : Fitting []
+fitting_none i = subst (λ (d : Departure). fits d.entry ≡ true) (sym (get_or_past {X = Departure} [] i no_departure (omega arith))) refl
+
+pub fitting_push : (D : List Departure) (d : Departure) → Fitting D → Fits d.entry → Fitting (D ++ d ∷ [])
+fitting_push D d h fit = all_push D d no_departure (λ x. fits x.entry ≡ true) h (so_fits d.entry fit) refl
+
+-- ── what the history keeps ──
+pub counts_next : (p : Past) (n t : ℕ) (e : Entry) → Counts p n → t < 4 → Counts (left_next t e p) (n + 1)
+counts_next p n t e h four = record {
+  within = h.within;
+  present = omega (arith, h.present, count-push p.run p.left (departure p.run p.left t e) refl);
+  recorded = recorded_push p.run p.left h.recorded t e four;
+}
+
+pub counts-closed : (p : Past) (n : ℕ) → Counts p n → p.run < 4 → Counts (closed p) 0
+counts-closed p n h l = record {
+  within = omega arith;
+  present = sym (none_yet (p.run + 1) p.left (λ i k. omega (arith, (h.recorded.placed i k).0)));
+  recorded = recorded_later p.run p.left h.recorded;
+}

@@ -1,15 +1,13 @@
 mod Fitting
-mod Rowed
 mod Replaced
 mod Last
 mod Hearing
 mod Refusing
 mod HistoryLaws
-mod HistorySteps
 mod Passing
 mod Bounds
 mod MachineFacts
-mod Filling
+mod Made
 mod Steps
 mod Played
 mod Grows

@@ -57,14 +57,14 @@ tracks_more n older d s l h = let new : ThreadFlushes = noted n d.entry d.moment
 }
 
 -- ── the steps of the loop ──
-module _ (r n : ℕ) (D : List Departure) (i : ℕ) (d : Departure) (l : i < length D) (s : LineFlushes) (inv : Tracks n (reverse (of_run r (take i D))) s) where
-  more : (b : Bool) → eqb (get_or D i d).run r ≡ b → of_run r (take (i + 1) D) ≡ of_run r (take i D) ++ cond b (get_or D i d ∷ []) []
-  more b e = filter_more (λ x. eqb x.run r) D i d l ∙ ap (λ c. of_run r (take i D) ++ cond c (get_or D i d ∷ []) []) e
+module _ (r n : ℕ) (D : List Departure) (i : ℕ) (d : Departure) (l : i < length D) (is : d ≡ get_or D i d) (s : LineFlushes) (inv : Tracks n (reverse (of_run r (take i D))) s) where
+  more : (b : Bool) → eqb d.run r ≡ b → of_run r (take (i + 1) D) ≡ of_run r (take i D) ++ cond b (d ∷ []) []
+  more b e = filter_more (λ x. eqb x.run r) D i d l ∙ (ap (λ (x : Departure). of_run r (take i D) ++ cond (eqb x.run r) (x ∷ []) []) (sym is) ∙ ap (λ c. of_run r (take i D) ++ cond c (d ∷ []) []) e)
 
-  pub same_run : (get_or D i d).run ≡ r → (get_or D i d).thread < 4 → (s' : LineFlushes) → s' ≡ passed n (get_or D i d) s → Tracks n (reverse (of_run r (take (i + 1) D))) s'
-  same_run e four s' is =
-      let back : reverse (of_run r (take (i + 1) D)) ≡ get_or D i d ∷ reverse (of_run r (take i D)) = ap (λ (x : List Departure). reverse x) (more true (eq-eqb (get_or D i d).run r e)) ∙ reverse-append (of_run r (take i D)) (get_or D i d ∷ []) in
-      subst (Tracks n (reverse (of_run r (take (i + 1) D)))) (sym is) (subst (λ (x : List Departure). Tracks n x (passed n (get_or D i d) s)) (sym back) (tracks_more n (reverse (of_run r (take i D))) (get_or D i d) s four inv))
+  pub same_run : d.run ≡ r → d.thread < 4 → Tracks n (reverse (of_run r (take (i + 1) D))) (passed n d s)
+  same_run e four =
+      let back : reverse (of_run r (take (i + 1) D)) ≡ d ∷ reverse (of_run r (take i D)) = ap (λ (x : List Departure). reverse x) (more true (eq-eqb d.run r e)) ∙ reverse-append (of_run r (take i D)) (d ∷ []) in
+      subst (λ (x : List Departure). Tracks n x (passed n d s)) (sym back) (tracks_more n (reverse (of_run r (take i D))) d s four inv)
 
-  pub other_run : ((get_or D i d).run ≡ r → ⊥) → Tracks n (reverse (of_run r (take (i + 1) D))) s
-  other_run e = subst (λ (x : List Departure). Tracks n (reverse x) s) (sym (more false (ne_eqb (get_or D i d).run r e) ∙ append-nil (of_run r (take i D)))) inv
+  pub other_run : (d.run ≡ r → ⊥) → Tracks n (reverse (of_run r (take (i + 1) D))) s
+  other_run e = subst (λ (x : List Departure). Tracks n (reverse x) s) (sym (more false (ne_eqb d.run r e) ∙ append-nil (of_run r (take i D)))) inv

@@ -1,23 +1,26 @@
 -- Every accepted message keeps the machine sound.
 use Rattle.std.proofs.Common.{◌≡◌, ℕ, zero, suc, ◌+◌, ◌<◌, ◌≤◌, true, List, [], ◌∷◌, ◌++◌, length, get_or, set, replicate, Some, None, Ok, Option, sym, refl, ap, subst, inl, inr, arith}
 use Rattle.std.specs.Option.{option_map}
-use Rattle.std.proofs.lemmas.List.{length_push, get_or_past, get_or-replicate}
+use Rattle.std.proofs.lemmas.List.{get_or_past}
 use Rattle.std.proofs.lemmas.Bool.{cases_lt}
 use Rattle.message.specs.Kinds.{kind_of}
 use Rattle.message.specs.Format.{field}
 use Rattle.message.specs.Reading.{Refused, event_of}
 use Rattle.message.specs.Refusals.{NoneHolds}
 use Rattle.message.specs.declared.kinds.Kind.{Kind}
+use Rattle.processor.specs.Entries.{Fits, fits}
 use Rattle.processor.specs.Growth.{Grown}
+use Rattle.processor.specs.History.{Fitting, Recorded}
 use Rattle.processor.specs.Laws.{Laws}
 use Rattle.processor.specs.Logging.{Asks, LogRefused, Logs}
-use Rattle.processor.specs.Machine.{Machine, row, departure, opened, with_row, entered, acted, drained_from, drained_by, fenced, kept, cut, counted}
-use Rattle.processor.specs.Memory.{InLine, Fits, fits}
+use Rattle.processor.specs.Departures.{departure}
+use Rattle.processor.specs.Machine.{Machine, row, opened, with_row, entered, acted, drained_from, drained_by, fenced, kept, cut, counted}
+use Rattle.processor.specs.Memory.{InLine}
 use Rattle.processor.specs.Operations.{operation, operation_for, InRange, Refuses, step}
 use Rattle.processor.specs.Playing.{Accepts}
-use Rattle.processor.specs.Sound.{Sound, bound}
+use Rattle.processor.specs.Sound.{Facts, Sound}
 use Rattle.processor.specs.Sources.{load_of, from_waiting, from_cached}
-use Rattle.processor.specs.Waiting.{AllFit, total}
+use Rattle.processor.specs.Waiting.{AllFit}
 use Rattle.processor.specs.declared.entries.Entry.{Entry}
 use Rattle.processor.specs.declared.entries.Entry.TheVariants.{StoreFence}
 use Rattle.processor.specs.declared.faults.BufferFault.TheVariants.{Message, Full}
@@ -26,41 +29,35 @@ use Rattle.processor.specs.declared.loads.Load.{Load}
 use Rattle.processor.specs.declared.operations.Operation.{Operation}
 use Rattle.processor.specs.declared.operations.Operation.TheVariants.{Enter, Drain, FullFence, PowerCut}
 use Rattle.processor.specs.declared.operations.Operation.TheVariants as asked
-use Rattle.processor.proofs.Bounds.{total_few, taken_drained_by}
+use Rattle.processor.proofs.Bounds.{taken_drained_by}
 use Rattle.processor.proofs.Fitting.{fits_so, fit_push}
 use Rattle.processor.proofs.FloorLaws.{floor_within, mark_within}
 use Rattle.processor.proofs.Grows.{grown_trans, grown_same, grown_counted, others_stay}
-use Rattle.processor.proofs.HistoryLaws.{Recorded, recorded_none, recorded_later, recorded_push}
+use Rattle.processor.proofs.HistoryLaws.{recorded_none, recorded_later, recorded_push, fitting_none, fitting_push}
 use Rattle.processor.proofs.Hearing.{in_its_range}
 use Rattle.processor.proofs.Last.{last_is}
-use Rattle.processor.proofs.MachineFacts.{Facts, acted-facts, leave_facts, cut-facts, entered-facts, kept-facts, facts-opened}
+use Rattle.processor.proofs.MachineFacts.{no_rows, acted-facts, leave_facts, cut-facts, entered-facts, kept-facts, facts-opened}
 use Rattle.processor.proofs.Raising.{largest-floor}
 use Rattle.processor.proofs.Replaced.{at_set}
-use Rattle.processor.proofs.Steps.{bound-step, accepted_step}
+use Rattle.processor.proofs.Steps.{accepted_step, bound_small, counted-facts}
 
 facts : (m : Machine) → Sound m → Facts m
-facts m s = record { loaded = s.loaded; counted = s.counted; four = s.four }
+facts m s = record { loaded = s.loaded; counted = s.counted; four = s.four; cuts = s.cuts; moments = s.moments; rows = s.rows; loads = s.loads }
 
 recorded : (m : Machine) → Sound m → Recorded m.run m.left
-recorded m s = record { placed = s.placed; fitting = s.fitting; in_turn = s.in_turn; dated = s.dated }
+recorded m s = record { placed = s.placed; in_turn = s.in_turn; dated = s.dated }
 
 -- what a machine is sound by, apart from what follows
 record Parts (m : Machine) : Type 0 where
   recorded : Recorded m.run m.left
-  facts : Facts m
+  fitting : Fitting m.left
   waiting : (t : ℕ) → AllFit (row m t)
-  cuts : m.run ≤ 4
-  moments : length m.left ≤ 512
-  rows : (t : ℕ) → length (row m t) ≤ 8
-  loads : length m.loads ≤ 256
-
-few_entries : (m : Machine) → length m.waits ≡ 4 → ((t : ℕ) → length (row m t) ≤ 8) → total m.waits ≤ 32
-few_entries m four rows = omega (arith, total_few 8 m.waits rows)
+  facts : Facts m
 
 sound_by : (m : Machine) → Parts m → Sound m
 sound_by m p = record {
   placed = p.recorded.placed;
-  fitting = p.recorded.fitting;
+  fitting = p.fitting;
   in_turn = p.recorded.in_turn;
   dated = p.recorded.dated;
   largest = λ r n. largest-floor r n m.left p.recorded.dated;
@@ -69,29 +66,17 @@ sound_by m p = record {
   four = p.facts.four;
   waiting = p.waiting;
   loaded = p.facts.loaded;
-  cuts = p.cuts;
-  moments = p.moments;
-  rows = p.rows;
-  loads = p.loads;
+  cuts = p.facts.cuts;
+  moments = p.facts.moments;
+  rows = p.facts.rows;
+  loads = p.facts.loads;
   counted = p.facts.counted;
-  few = omega (arith, p.facts.counted, p.cuts, p.moments, p.loads, few_entries m p.facts.four p.rows);
+  few = omega (arith, p.facts.counted, bound_small m p.facts);
 }
 
 -- ── rows ──
-rows_set : (W : List (List Entry)) (t : ℕ) (es : List Entry) → length es ≤ 8 → ((k : ℕ) → length (get_or W k []) ≤ 8) → (k : ℕ) → length (get_or (set W t es) k []) ≤ 8
-rows_set W t es l h k = at_set W t es [] (λ r. length r ≤ 8) k (λ _. l) (h k)
-
 fitting_set : (W : List (List Entry)) (t : ℕ) (es : List Entry) → AllFit es → ((k : ℕ) → AllFit (get_or W k [])) → (k : ℕ) → AllFit (get_or (set W t es) k [])
 fitting_set W t es l h k = at_set W t es [] AllFit k (λ _. l) (h k)
-
-no_rows : (t : ℕ) → get_or {A = List Entry} (replicate 4 []) t [] ≡ []
-no_rows t = elim (cases_lt t 4) [
-  | inl l ↦ get_or-replicate {A = List Entry} 4 t [] [] l
-  | inr l ↦ get_or_past {X = List Entry} (replicate 4 []) t [] l
-]
-
-none_long : (t : ℕ) → length (get_or {A = List Entry} (replicate 4 []) t []) ≤ 8
-none_long t = omega (arith, ap (λ (r : List Entry). length r) (no_rows t))
 
 none_fit : (t : ℕ) → AllFit (get_or {A = List Entry} (replicate 4 []) t [])
 none_fit t = subst AllFit (sym (no_rows t)) (λ i. subst (λ (e : Entry). fits e ≡ true) (sym (get_or_past {X = Entry} [] i StoreFence (omega arith))) refl)
@@ -99,25 +84,19 @@ none_fit t = subst AllFit (sym (no_rows t)) (λ i. subst (λ (e : Entry). fits e
 -- ── steps ──
 sound_acted : (t : ℕ) (e : Entry) (m : Machine) → Sound m → t < 4 → Fits e → length m.left < 512 → Sound (acted t e m)
 sound_acted t e m s four l room = sound_by (acted t e m) (record {
-  recorded = recorded_push m.run m.left (recorded m s) t e four l;
-  facts = acted-facts m (facts m s) t e;
+  recorded = recorded_push m.run m.left (recorded m s) t e four;
+  fitting = fitting_push m.left (departure m.run m.left t e) s.fitting l;
   waiting = s.waiting;
-  cuts = s.cuts;
-  moments = omega (arith, length_push m.left (departure m.run m.left t e));
-  rows = s.rows;
-  loads = s.loads;
+  facts = acted-facts m (facts m s) t e room;
 })
 
 sound_drained : (es : List Entry) (t : ℕ) (m : Machine) → row m t ≡ es → Sound m → t < 4 → length m.left < 512 → Sound (drained_from es t m)
 sound_drained [] t m w s four room = s
 sound_drained (e ∷ es) t m w s four room = sound_by (acted t e (with_row t es m)) (record {
-  recorded = recorded_push m.run m.left (recorded m s) t e four (fits_so e (subst (λ (r : List Entry). fits (get_or r 0 StoreFence) ≡ true) w (s.waiting t 0)));
-  facts = leave_facts m (facts m s) t e es w;
+  recorded = recorded_push m.run m.left (recorded m s) t e four;
+  fitting = fitting_push m.left (departure m.run m.left t e) s.fitting (fits_so e (subst (λ (r : List Entry). fits (get_or r 0 StoreFence) ≡ true) w (s.waiting t 0)));
   waiting = fitting_set m.waits t es (λ i. subst (λ (r : List Entry). fits (get_or r (suc i) StoreFence) ≡ true) w (s.waiting t (suc i))) s.waiting;
-  cuts = s.cuts;
-  moments = omega (arith, length_push m.left (departure m.run m.left t e));
-  rows = rows_set m.waits t es (omega (arith, ap length w, s.rows t)) s.rows;
-  loads = s.loads;
+  facts = leave_facts m (facts m s) t e es w room;
 })
 
 sound_drained_by : (n t : ℕ) (m : Machine) → Sound m → t < 4 → length m.left + n ≤ 512 → Sound (drained_by n t m)
@@ -132,39 +111,19 @@ sound_fenced t m s four l =
 sound_entered : (t : ℕ) (e : Entry) (m : Machine) → Sound m → Fits e → t < 4 → length (row m t) < 8 → Sound (entered t e m)
 sound_entered t e m s l four room = sound_by (entered t e m) (record {
   recorded = recorded m s;
-  facts = entered-facts m (facts m s) t e four;
+  fitting = s.fitting;
   waiting = fitting_set m.waits t (row m t ++ e ∷ []) (fit_push (row m t) e (s.waiting t) l) s.waiting;
-  cuts = s.cuts;
-  moments = s.moments;
-  rows = rows_set m.waits t (row m t ++ e ∷ []) (omega (arith, length_push (row m t) e)) s.rows;
-  loads = s.loads;
+  facts = entered-facts m (facts m s) t e four room;
 })
 
 sound_kept : (l : Load) (m : Machine) → Sound m → l.run ≤ m.run → InLine l.access → length m.loads < 256 → Sound (kept l m)
-sound_kept l m s a b room = sound_by (kept l m) (record {
-  recorded = recorded m s;
-  facts = kept-facts m (facts m s) l a b;
-  waiting = s.waiting;
-  cuts = s.cuts;
-  moments = s.moments;
-  rows = s.rows;
-  loads = omega (arith, length_push m.loads l);
-})
+sound_kept l m s a b room = sound_by (kept l m) (record { recorded = recorded m s; fitting = s.fitting; waiting = s.waiting; facts = kept-facts m (facts m s) l a b room })
 
 sound_cut : (m : Machine) → Sound m → m.run < 4 → Sound (cut m)
-sound_cut m s l = sound_by (cut m) (record {
-  recorded = recorded_later m.run m.left (recorded m s);
-  facts = cut-facts m (facts m s) (few_entries m s.four s.rows);
-  waiting = none_fit;
-  cuts = omega arith;
-  moments = s.moments;
-  rows = none_long;
-  loads = s.loads;
-})
+sound_cut m s l = sound_by (cut m) (record { recorded = recorded_later m.run m.left (recorded m s); fitting = s.fitting; waiting = none_fit; facts = cut-facts m (facts m s) l })
 
 begins : Sound opened
-begins = sound_by opened (record
-    { recorded = recorded_none 0; facts = facts-opened; waiting = none_fit; cuts = omega arith; moments = omega arith; rows = none_long; loads = omega arith })
+begins = sound_by opened (record { recorded = recorded_none 0; fitting = fitting_none; waiting = none_fit; facts = facts-opened })
 
 -- ── operations ──
 not_refused : (n k : ℕ) → (n ≤ k → ⊥) → k < n
@@ -181,16 +140,11 @@ sound_step PowerCut m i none s = sound_cut m s (not_refused 4 m.run (λ l. none 
 sound_counted : (o : Operation) (m : Machine) → InRange o → NoneHolds (Refuses m o) → Sound m → Sound (counted (step o m))
 sound_counted o m i none s =
     let k = sound_step o m i none s in
-    let more : m.accepted + 1 ≤ bound (step o m) = omega (arith, s.counted, bound-step m o i s.four (few_entries m s.four s.rows) none) in
-    let same = accepted_step o m in
     sound_by (counted (step o m)) (record {
       recorded = recorded (step o m) k;
-      facts = record { loaded = k.loaded; counted = omega arith; four = k.four };
+      fitting = k.fitting;
       waiting = k.waiting;
-      cuts = k.cuts;
-      moments = k.moments;
-      rows = k.rows;
-      loads = k.loads;
+      facts = counted-facts m (step o m) o ((step o m).accepted + 1) refl (omega (arith, accepted_step o m)) (facts m s) (facts (step o m) k) i none;
     })
 
 -- ── messages ──

@@ -1,18 +1,15 @@
 -- What a step does to the count of messages and its bound.
-use Rattle.std.proofs.Common.{◌≡◌, ℕ, zero, suc, ◌+◌, ◌≤◌, List, [], ◌∷◌, length, refl, ap, ◌∙◌, inl, arith, length-take}
+use Rattle.std.proofs.Common.{◌≡◌, ℕ, zero, suc, ◌+◌, ◌≤◌, List, [], ◌∷◌, length, sym, refl, ap, ap₂, ◌∙◌, inl, arith}
 use Rattle.message.specs.Refusals.{NoneHolds}
-use Rattle.processor.specs.Machine.{Machine, row, drained_from, drained_by}
-use Rattle.processor.specs.MachineView.{machine_of}
+use Rattle.processor.specs.Machine.{Machine, machine_with, row, drained_from, drained_by, counted}
 use Rattle.processor.specs.Operations.{InRange, Refuses, step}
-use Rattle.processor.specs.Sound.{bound}
+use Rattle.processor.specs.Sound.{Facts, bound}
 use Rattle.processor.specs.Sources.{load_of}
-use Rattle.processor.specs.Waiting.{total}
 use Rattle.processor.specs.declared.entries.Entry.{Entry}
 use Rattle.processor.specs.declared.faults.BufferFault.TheVariants.{Empty}
 use Rattle.processor.specs.declared.faults.CaseFault.TheVariants.{Buffer}
 use Rattle.processor.specs.declared.operations.Operation.{Operation}
 use Rattle.processor.specs.declared.operations.Operation.TheVariants.{Enter, Drain, FullFence, Load, PowerCut}
-use Rattle.processor.specs.declared.processor.Processor.{Processor}
 use Rattle.processor.proofs.Bounds.{bound_leaves, bound-entered, bound-kept, bound-cut, bound-fenced}
 use Rattle.processor.proofs.MachineFacts.{few_wait}
 
@@ -21,12 +18,12 @@ drain_grows : (es : List Entry) (t : ℕ) (m : Machine) → row m t ≡ es → (
 drain_grows [] t m w n = absurd (n w)
 drain_grows (e ∷ es) t m w n = omega (arith, bound_leaves m t e es w)
 
-pub bound-step : (m : Machine) (o : Operation) → InRange o → length m.waits ≡ 4 → total m.waits ≤ 32 → NoneHolds (Refuses m o) → bound m + 1 ≤ bound (step o m)
-bound-step m (Enter t e) i four few none = omega (arith, bound-entered t e m (omega (arith, i.0)))
-bound-step m (Drain t) i four few none = drain_grows (row m t) t m refl (λ w. none (Buffer (Empty t)) (inl (refl, w)))
-bound-step m (FullFence t) i four few none = bound-fenced t m
-bound-step m (Load t x) i four few none = omega (arith, bound-kept (load_of m t x) m)
-bound-step m PowerCut i four few none = bound-cut m few
+pub bound-step : (m : Machine) (o : Operation) → InRange o → Facts m → NoneHolds (Refuses m o) → bound m + 1 ≤ bound (step o m)
+bound-step m (Enter t e) i f none = omega (arith, bound-entered t e m (omega (arith, i.0, f.four)))
+bound-step m (Drain t) i f none = drain_grows (row m t) t m refl (λ w. none (Buffer (Empty t)) (inl (refl, w)))
+bound-step m (FullFence t) i f none = bound-fenced t m
+bound-step m (Load t x) i f none = omega (arith, bound-kept (load_of m t x) m)
+bound-step m PowerCut i f none = bound-cut m (few_wait m f)
 
 -- no step counts messages
 accepted_drained : (es : List Entry) (t : ℕ) (m : Machine) → (drained_from es t m).accepted ≡ m.accepted
@@ -45,10 +42,21 @@ accepted_step (Load t x) m = refl
 accepted_step PowerCut m = refl
 
 -- few messages are accepted at all
-pub bound_small : (p : Processor) → bound (machine_of p) ≤ 1444
-bound_small p = omega (arith, p.history.within, p.history.left.room.0, length-take p.history.left.len p.history.left.items, few_wait p.buffers p.four, p.loads.room.0, length-take p.loads.len p.loads.items)
+pub bound_small : (m : Machine) → Facts m → bound m ≤ 1444
+bound_small m f = omega (arith, f.cuts, f.moments, few_wait m f, f.loads)
 
--- what is done leaves room for one more in the count
-pub room_to_count : (p q : Processor) (o : Operation) → InRange o → NoneHolds (Refuses (machine_of p) o) → machine_of q ≡ step o (machine_of p) → q.accepted + 1 ≤ bound (machine_of q)
-room_to_count p q o i none is =
-    omega (arith, p.counted, bound-step (machine_of p) o i p.four (few_wait p.buffers p.four) none, accepted_step o (machine_of p), ap bound is, ap (λ (m : Machine). m.accepted) is)
+-- what is done, with a count of the messages accepted
+module _ (m n : Machine) (o : Operation) (a : ℕ) (done : n ≡ step o m) where
+  pub counted_is : a ≡ m.accepted + 1 → machine_with n.run n.left n.waits n.loads a ≡ counted (step o m)
+  counted_is one = ap₂ (λ (x : Machine) (k : ℕ). machine_with x.run x.left x.waits x.loads k) done (one ∙ ap (λ k. k + 1) (sym (accepted_step o m)))
+
+  pub counted-facts : a ≤ m.accepted + 1 → Facts m → Facts n → InRange o → NoneHolds (Refuses m o) → Facts (machine_with n.run n.left n.waits n.loads a)
+  counted-facts one f g i none = record {
+    loaded = g.loaded;
+    counted = omega (arith, f.counted, bound-step m o i f none, ap bound done);
+    four = g.four;
+    cuts = g.cuts;
+    moments = g.moments;
+    rows = g.rows;
+    loads = g.loads;
+  }

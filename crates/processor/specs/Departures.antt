@@ -1,5 +1,5 @@
 -- What has left the buffers, and what follows from it: the counts, marks and floors of the runs.
-use Rattle.std.specs.Prelude.{ℕ, max, Bool, true, false, cond, ◌&&◌, List, [], ◌∷◌, reverse, length, filter, ◌==◌, nat_eq}
+use Rattle.std.specs.Prelude.{ℕ, ◌+◌, max, Bool, true, false, cond, ◌&&◌, List, [], ◌∷◌, reverse, length, filter, ◌==◌, nat_eq}
 use Rattle.processor.specs.Memory.{line}
 use Rattle.processor.specs.declared.departures.Departure.{Departure}
 use Rattle.processor.specs.declared.entries.Entry.{Entry}
@@ -12,6 +12,10 @@ of_run r D = filter (λ d. nat_eq d.run r) D
 -- the count of a run: how many left in it, and so the last moment taken in it, or 0
 abbrev pub count : ℕ → List Departure → ℕ
 count r D = length (of_run r D)
+
+-- an entry of thread t that takes the next moment of run r
+abbrev pub departure : ℕ → List Departure → ℕ → Entry → Departure
+departure r D t e = record { run = r; moment = count r D + 1; thread = t; entry = e }
 
 -- ── marks: here what left in one run stands newest first ──
 -- a fence; a full fence acts as a store fence that leaves

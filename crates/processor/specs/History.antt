@@ -1,11 +1,28 @@
--- What holds at all times of what has left. Each fact is made of orders and equations of numbers, so that a ghost field of the
--- code's structs may hold it.
-use Rattle.std.specs.Prelude.{◌≡◌, ℕ, ◌+◌, ◌<◌, ◌≤◌, true, List, length, take, slice_index_or}
-use Rattle.processor.specs.Departures.{count}
-use Rattle.processor.specs.Memory.{no_access, fits}
+-- What has left the buffers, with the number of the present run; and what holds of it at all times.
+use Rattle.std.specs.Prelude.{◌≡◌, ℕ, ◌+◌, ◌<◌, ◌≤◌, true, List, [], ◌∷◌, ◌++◌, length, take, slice_index_or}
+use Rattle.processor.specs.Departures.{count, departure}
+use Rattle.processor.specs.Entries.{fits}
+use Rattle.processor.specs.Memory.{no_access}
 use Rattle.processor.specs.declared.departures.Departure.{Departure}
+use Rattle.processor.specs.declared.entries.Entry.{Entry}
 use Rattle.processor.specs.declared.entries.Entry.TheVariants.{Store}
 
+pub record Past : Type 0 where
+  pub run : ℕ
+  pub left : List Departure
+
+abbrev pub past : ℕ → List Departure → Past
+past r D = record { run = r; left = D }
+
+-- an entry of thread t leaves at the next moment
+abbrev pub left_next : ℕ → Entry → Past → Past
+left_next t e p = past p.run (p.left ++ departure p.run p.left t e ∷ [])
+
+-- a cut closes the present run
+abbrev pub closed : Past → Past
+closed p = past (p.run + 1) p.left
+
+-- ── facts ──
 -- what a look-up past the end gives
 abbrev pub no_departure : Departure
 no_departure = record { run = 0; moment = 0; thread = 0; entry = Store no_access }
@@ -31,3 +48,14 @@ InTurn D = (i j : ℕ) → (i < j) × (j < length D) → (left_at D i).run ≤ (
 -- moments of a run rise by one, from 1
 abbrev pub Dated : List Departure → Type 0
 Dated D = (i : ℕ) → i < length D → (left_at D i).moment ≡ count (left_at D i).run (take i D) + 1
+
+pub record Recorded (run : ℕ) (D : List Departure) : Type 0 where
+  pub placed : Placed run D
+  pub in_turn : InTurn D
+  pub dated : Dated D
+
+-- what the history keeps, which has the count of the present run
+pub record Counts (p : Past) (n : ℕ) : Type 0 where
+  pub within : p.run ≤ 4
+  pub present : n ≡ count p.run p.left
+  pub recorded : Recorded p.run p.left

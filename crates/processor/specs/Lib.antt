@@ -1,4 +1,6 @@
+pub mod Threads
 pub mod Memory
+pub mod Entries
 pub mod Faults
 pub mod Waiting
 pub mod Departures
@@ -11,6 +13,5 @@ pub mod Operations
 pub mod Logging
 pub mod Sound
 pub mod Growth
-pub mod MachineView
 pub mod Playing
 pub mod Laws

@@ -1,6 +1,6 @@
 -- The processor, in its own terms: threads 0 to 3, lines 0 to 63, runs 0 to 4, and in each run moments from 1 on.
 use Rattle.std.specs.Prelude.{ℕ, zero, suc, ◌+◌, List, [], ◌∷◌, ◌++◌, length, replicate, slice_index_or, slice_set}
-use Rattle.processor.specs.Departures.{count}
+use Rattle.processor.specs.Departures.{departure}
 use Rattle.processor.specs.declared.departures.Departure.{Departure}
 use Rattle.processor.specs.declared.entries.Entry.{Entry}
 use Rattle.processor.specs.declared.entries.Entry.TheVariants.{StoreFence}
@@ -34,10 +34,7 @@ with_row t es m = machine_with m.run m.left (slice_set m.waits t es) m.loads m.a
 abbrev pub entered : ℕ → Entry → Machine → Machine
 entered t e m = with_row t (row m t ++ e ∷ []) m
 
--- an entry of thread t that takes the next moment of run r
-abbrev pub departure : ℕ → List Departure → ℕ → Entry → Departure
-departure r D t e = record { run = r; moment = count r D + 1; thread = t; entry = e }
-
+-- an entry takes the next moment and acts
 abbrev pub acted : ℕ → Entry → Machine → Machine
 acted t e m = machine_with m.run (m.left ++ departure m.run m.left t e ∷ []) m.waits m.loads m.accepted
 

@@ -8,8 +8,9 @@ use Rattle.message.specs.declared.events.Event.{Event}
 use Rattle.message.specs.declared.kinds.Kind.{Kind}
 use Rattle.message.specs.declared.kinds.Kind.TheVariants as kind
 use Rattle.processor.specs.Faults.{case_number}
-use Rattle.processor.specs.Machine.{Machine, row, entered, drained, fenced, kept, cut}
-use Rattle.processor.specs.Memory.{line, InLine, Fits}
+use Rattle.processor.specs.Machine.{Machine, row, entered, drained, fenced, kept, cut, counted}
+use Rattle.processor.specs.Entries.{Fits}
+use Rattle.processor.specs.Memory.{span, line, InLine}
 use Rattle.processor.specs.Sources.{load_of}
 use Rattle.processor.specs.declared.accesses.Access.{Access}
 use Rattle.processor.specs.declared.entries.Entry.TheVariants as entry
@@ -22,7 +23,7 @@ use Rattle.processor.specs.declared.operations.Operation.TheVariants.{Enter, Dra
 -- ── what a message asks ──
 -- the bytes that a store or load names, its value low byte first
 abbrev pub access_of : Event → Access
-access_of e = record { address = e.address; width = e.width; value = bytes_of 8 e.value }
+access_of e = span e.address e.width (bytes_of 8 e.value)
 
 -- a store, a flush and a store fence enter their thread's buffer
 abbrev pub operation : Kind → Event → Operation
@@ -68,3 +69,8 @@ step PowerCut m = cut m
 abbrev pub Performs : Operation → Machine → Result (Unit {0}) CaseFault → Machine → Type 0
 Performs o m (Ok _) m' = NoneHolds (Refuses m o) × (m' ≡ step o m)
 Performs o m (Err f) m' = Comes case_number (Refuses m o) f × (m' ≡ m)
+
+-- the same with a count of what is done
+abbrev pub Follows : Operation → Machine → Result (Unit {0}) CaseFault → Machine → Type 0
+Follows o m (Ok _) m' = NoneHolds (Refuses m o) × (m' ≡ counted (step o m))
+Follows o m (Err f) m' = Comes case_number (Refuses m o) f × (m' ≡ m)

@@ -30,6 +30,16 @@ Counted m = m.accepted ≤ bound m
 abbrev pub Four : Machine → Type 0
 Four m = length m.waits ≡ 4
 
+-- what the processor keeps with every step, whether or not a message asks for it
+pub record Facts (m : Machine) : Type 0 where
+  pub loaded : Loaded m
+  pub counted : Counted m
+  pub four : Four m
+  pub cuts : m.run ≤ 4
+  pub moments : length m.left ≤ 512
+  pub rows : (t : ℕ) → length (row m t) ≤ 8
+  pub loads : length m.loads ≤ 256
+
 pub record Sound (m : Machine) : Type 0 where
   -- what has left: moments of a run rise by one, from 1, and runs follow one another
   pub placed : Placed m.run m.left

@@ -46,8 +46,11 @@ abbrev pub source : Machine → ℕ → ℕ → Option Source
 source m t b = option_or (last_of (from_waiting b) (row m t)) (last_of (from_cached m.run b) m.left)
 
 -- the sources of the bytes of an access, from its address on, in eight places
+abbrev pub source_within : Machine → ℕ → Access → ℕ → Option Source
+source_within m t x i = cond (nat_lt i x.width) (source m t (x.address + i)) None
+
 abbrev pub sources_of : Machine → ℕ → Access → List (Option Source)
-sources_of m t x = map (λ i. cond (nat_lt i x.width) (source m t (x.address + i)) None) (range_with_len 0 8)
+sources_of m t x = map (source_within m t x) (range_with_len 0 8)
 
 -- the load that thread t makes now
 abbrev pub load_of : Machine → ℕ → Access → Load

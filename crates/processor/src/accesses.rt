@@ -1,6 +1,8 @@
 // Bytes of the memory that one store writes or one load reads.
 ghost use Rattle.std.specs.Prelude.{◌≡◌};
-ghost use Rattle.processor.specs.Memory.{InLine, line, byte_at};
+ghost use Rattle.processor.specs.Memory.{line, byte_at};
+
+use std::marker::Model;
 
 // The `width` bytes from `address` on, and their values; value bytes beyond the width are 0. All of them lie in one cache
 // line.
@@ -11,9 +13,20 @@ pub struct Access {
     pub value: [u8; 8],
 }
 
+impl Model for Access {
+    ghost use Rattle.processor.specs.Memory.{Span, span, InLine};
+
+    ghost Value = { Span };
+
+    ghost view = { λ a. span a.address a.width a.value };
+
+    ghost invariant = { λ a. InLine (span a.address a.width a.value) };
+
+    ghost inverse = { λ s. record { address = s.address; width = s.width; value = s.value } };
+}
+
 impl Access {
     pub(crate) fn line(&self) -> u8
-        requires { InLine self.now }
         ensures { result ≡ line self.now.address }
     {
         (self.address / 64) as u8
@@ -21,7 +34,6 @@ impl Access {
 
     // The byte that it has for an address, if it covers that.
     pub(crate) fn byte_at(&self, at: u16) -> Option<u8>
-        requires { InLine self.now }
         ensures { result ≡ byte_at self.now at }
     {
         if self.address <= at && at < self.address + self.width as u16 {

@@ -2,12 +2,11 @@
 ghost use Rattle.std.specs.Prelude.{◌≡◌, ◌<◌, ◌≤◌, length};
 ghost use Rattle.processor.specs.Departures.{count, floor, raised};
 ghost use Rattle.processor.specs.FloorPass.{noted, passed, unflushed};
-ghost use Rattle.processor.specs.History.{Fitting, OfThreads};
-ghost use Rattle.processor.specs.Memory.{Fits};
+ghost use Rattle.processor.specs.History.{OfThreads};
 
-use crate::buffers::THREADS;
 use crate::departures::Departure;
 use crate::entries::Entry;
+use crate::threads::THREADS;
 
 // What decides a thread's flushes of one line, after a part of a run: the moments of its last fence and of its last cached
 // store or strong flush on the line, and the largest mark of the line in its flush set.
@@ -28,7 +27,6 @@ pub(crate) struct LineFlushes {
 impl ThreadFlushes {
     // An entry of the thread leaves at a moment.
     fn note(&mut self, entry: &Entry, moment: u16, line: u8)
-        requires { Fits entry.now }
         ensures { self.new ≡ noted line entry.now moment self.old }
     {
         match entry {
@@ -84,8 +82,7 @@ impl LineFlushes {
 
     // One more leaves.
     fn note(&mut self, departure: &Departure, line: u8)
-        requires entry { Fits departure.now.entry }
-        requires thread { departure.now.thread < 4 }
+        requires { departure.now.thread < 4 }
         ensures { self.new ≡ passed line departure.now self.old }
     {
         let thread = departure.thread as usize;
@@ -97,8 +94,7 @@ impl LineFlushes {
 
 // The floor of a line in a run.
 pub(crate) fn floor_of(left: &[Departure], run: u8, line: u8) -> u16
-    requires fitting { Fitting left.now }
-    requires threads { OfThreads left.now }
+    requires { OfThreads left.now }
     ensures { result ≡ floor run line left.now }
 {
     let mut flushes = LineFlushes::new();
@@ -115,11 +111,5 @@ pub(crate) fn count_of(left: &[Departure], run: u8) -> u16
     requires { length left.now ≤ 512 }
     ensures { result ≡ count run left.now }
 {
-    let mut count = 0;
-    for departure in left {
-        if departure.run == run {
-            count += 1;
-        }
-    }
-    count
+    left.iter().filter(|departure| departure.run == run).count() as u16
 }

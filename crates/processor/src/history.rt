@@ -1,10 +1,6 @@
 // What has left the buffers in all runs.
-ghost use Rattle.std.specs.Prelude.{◌≡◌, ◌≤◌};
-ghost use Rattle.tables.specs.Tables.{listed};
-ghost use Rattle.processor.specs.Departures.{count};
-ghost use Rattle.processor.specs.History.{Placed, Fitting, InTurn, Dated};
-
 use crate::departures::Departure;
+use std::marker::Model;
 use tables::Table;
 
 mod ops;
@@ -21,10 +17,14 @@ pub(crate) struct History {
     run: u8,
     present_count: u16,
     left: Table<Departure, MOMENTS>,
-    ghost within: { run ≤ 4 },
-    ghost counted: { present_count ≡ count run (listed left) },
-    ghost placed: { Placed run (listed left) },
-    ghost fitting: { Fitting (listed left) },
-    ghost in_turn: { InTurn (listed left) },
-    ghost dated: { Dated (listed left) },
+}
+
+impl Model for History {
+    ghost use Rattle.processor.specs.History.{Past, past, Counts};
+
+    ghost Value = { Past };
+
+    ghost view = { λ h. past h.run h.left };
+
+    ghost invariant = { λ h. Counts (past h.run h.left) h.present_count };
 }

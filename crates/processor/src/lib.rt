@@ -12,6 +12,7 @@ mod loads;
 mod operations;
 mod processor;
 mod sources;
+mod threads;
 
 pub use accesses::Access;
 pub use departures::Departure;
@@ -21,3 +22,4 @@ pub use loads::Load;
 pub use operations::Operation;
 pub use processor::{Playback, Processor};
 pub use sources::Source;
+pub use threads::{NoThread, Thread};

@@ -1,24 +1,28 @@
 // What a message asks of the processor.
-ghost use Rattle.std.specs.Prelude.{◌≡◌, MatchResult};
+ghost use Rattle.std.specs.Prelude.{◌≡◌, ◌<◌, MatchResult};
 ghost use Rattle.processor.specs.Logging.{Heard, NotHeard};
+ghost use Rattle.processor.specs.Memory.{line, InLine};
 ghost use Rattle.processor.specs.Operations.{access_of, operation, InRange};
+ghost use Rattle.processor.specs.declared.operations.Operation.TheVariants as asked;
 
 use crate::accesses::Access;
 use crate::entries::Entry;
 use crate::faults::BufferFault;
+use crate::threads::Thread;
 use message::{Event, Kind, read};
 
 #[derive(Clone, Copy)]
 pub enum Operation {
-    Enter { thread: u8, entry: Entry },
-    Drain { thread: u8 },
-    FullFence { thread: u8 },
-    Load { thread: u8, access: Access },
+    Enter { thread: Thread, entry: Entry },
+    Drain { thread: Thread },
+    FullFence { thread: Thread },
+    Load { thread: Thread, access: Access },
     PowerCut,
 }
 
 // The bytes that a store or load names.
 fn access_of(event: &Event) -> Access
+    requires { InLine (access_of event.now) }
     ensures { result ≡ access_of event.now }
 {
     let value = event.value.to_le_bytes();
@@ -29,32 +33,65 @@ fn access_of(event: &Event) -> Access
     }
 }
 
+// The thread that an event names.
+fn thread_of(event: &Event) -> Thread
+    requires { event.now.thread < 4 }
+    ensures { result ≡ event.now.thread }
+{
+    Thread::new(event.thread)
+}
+
+// The line of the address that an event names.
+fn line_of(event: &Event) -> u8
+    requires { event.now.address < 4096 }
+    ensures { result ≡ line event.now.address }
+{
+    (event.address / 64) as u8
+}
+
+// An entry enters the buffer of the event's thread.
+fn enter(event: &Event, entry: Entry) -> Operation
+    requires { event.now.thread < 4 }
+    ensures { result ≡ asked.Enter event.now.thread entry }
+{
+    Operation::Enter {
+        thread: thread_of(event),
+        entry,
+    }
+}
+
 // What an event of a kind asks.
 fn operation_of(kind: Kind, event: &Event) -> Operation
     requires { InRange (operation kind event.now) }
     ensures { result ≡ operation kind event.now }
 {
-    let thread = event.thread;
-    let entry = match kind {
-        Kind::Store => Entry::Store(access_of(event)),
-        Kind::StrongFlush => Entry::StrongFlush {
-            line: (event.address / 64) as u8,
+    match kind {
+        Kind::Store => enter(event, Entry::Store(access_of(event))),
+        Kind::StrongFlush => enter(
+            event,
+            Entry::StrongFlush {
+                line: line_of(event),
+            },
+        ),
+        Kind::WeakFlush => enter(
+            event,
+            Entry::WeakFlush {
+                line: line_of(event),
+            },
+        ),
+        Kind::StoreFence => enter(event, Entry::StoreFence),
+        Kind::FullFence => Operation::FullFence {
+            thread: thread_of(event),
         },
-        Kind::WeakFlush => Entry::WeakFlush {
-            line: (event.address / 64) as u8,
+        Kind::Drain => Operation::Drain {
+            thread: thread_of(event),
         },
-        Kind::StoreFence => Entry::StoreFence,
-        Kind::FullFence => return Operation::FullFence { thread },
-        Kind::Drain => return Operation::Drain { thread },
-        Kind::Load => {
-            return Operation::Load {
-                thread,
-                access: access_of(event),
-            };
-        }
-        Kind::PowerCut => return Operation::PowerCut,
-    };
-    Operation::Enter { thread, entry }
+        Kind::Load => Operation::Load {
+            thread: thread_of(event),
+            access: access_of(event),
+        },
+        Kind::PowerCut => Operation::PowerCut,
+    }
 }
 
 // What a message asks, or why it is none.

@@ -1,12 +1,8 @@
 // The processor: all that a case follows.
-ghost use Rattle.tables.specs.Tables.{listed};
-ghost use Rattle.processor.specs.Machine.{machine_with};
-ghost use Rattle.processor.specs.Sound.{Loaded, Counted, Four};
-ghost use Rattle.processor.specs.Waiting.{waits};
-
 use crate::buffers::Buffers;
 use crate::history::History;
 use crate::loads::Load;
+use std::marker::Model;
 use tables::Table;
 
 mod log;
@@ -24,7 +20,15 @@ pub struct Processor {
     buffers: Buffers,
     loads: Table<Load, LOADS>,
     accepted: u32,
-    ghost loaded: { Loaded (machine_with history.run (listed history.left) (waits buffers) (listed loads) accepted) },
-    ghost counted: { Counted (machine_with history.run (listed history.left) (waits buffers) (listed loads) accepted) },
-    ghost four: { Four (machine_with history.run (listed history.left) (waits buffers) (listed loads) accepted) },
+}
+
+impl Model for Processor {
+    ghost use Rattle.processor.specs.Machine.{Machine, machine_with};
+    ghost use Rattle.processor.specs.Sound.{Facts};
+
+    ghost Value = { Machine };
+
+    ghost view = { λ p. machine_with p.history.run p.history.left p.buffers.rows p.loads p.accepted };
+
+    ghost invariant = { λ p. Facts (machine_with p.history.run p.history.left p.buffers.rows p.loads p.accepted) };
 }

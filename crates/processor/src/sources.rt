@@ -1,9 +1,6 @@
 // Where a loaded byte comes from within the run of the load.
 ghost use Rattle.std.specs.Prelude.{◌≡◌};
-ghost use Rattle.processor.specs.History.{Fitting};
-ghost use Rattle.processor.specs.Memory.{Fits};
 ghost use Rattle.processor.specs.Sources.{last_of, from_waiting, from_cached};
-ghost use Rattle.processor.specs.Waiting.{AllFit};
 
 use crate::departures::Departure;
 use crate::entries::Entry;
@@ -17,7 +14,6 @@ pub enum Source {
 
 // What a waiting entry gives for the byte at an address.
 fn from_waiting(entry: &Entry, at: u16) -> Option<Source>
-    requires { Fits entry.now }
     ensures { result ≡ from_waiting at entry.now }
 {
     let Entry::Store(access) = entry else {
@@ -31,7 +27,6 @@ fn from_waiting(entry: &Entry, at: u16) -> Option<Source>
 
 // What a store cached in a run gives for it.
 fn from_cached(departure: &Departure, run: u8, at: u16) -> Option<Source>
-    requires { Fits departure.now.entry }
     ensures { result ≡ from_cached run at departure.now }
 {
     if departure.run != run {
@@ -51,24 +46,19 @@ fn from_cached(departure: &Departure, run: u8, at: u16) -> Option<Source>
 
 // The youngest of a thread's waiting stores that covers the byte at an address.
 pub(crate) fn last_waiting(entries: &[Entry], at: u16) -> Option<Source>
-    requires { AllFit entries.now }
     ensures { result ≡ last_of (from_waiting at) entries.now }
 {
-    let mut last = None;
-    for candidate in entries {
-        last = from_waiting(candidate, at).or(last);
-    }
-    last
+    entries
+        .iter()
+        .fold(None, |last, entry| from_waiting(entry, at).or(last))
 }
 
 // The last of the stores cached in a run that covers it, given all that left.
 pub(crate) fn last_cached(left: &[Departure], run: u8, at: u16) -> Option<Source>
-    requires { Fitting left.now }
     ensures { result ≡ last_of (from_cached run at) left.now }
 {
-    let mut last = None;
-    for candidate in left {
-        last = from_cached(candidate, run, at).or(last);
-    }
-    last
+    left.iter().fold(
+        None,
+        |last, departure| from_cached(departure, run, at).or(last),
+    )
 }

@@ -1,5 +1,5 @@
 // A table with room for N items, which stand in the order in which they came.
-ghost use Rattle.std.specs.Prelude.{◌≡◌, ◌≤◌, length};
+use std::marker::Model;
 
 mod ops;
 
@@ -7,5 +7,15 @@ mod ops;
 pub struct Table<T, const N: usize> {
     items: [T; N],
     len: usize,
-    ghost room: { (len ≤ N) × (length items ≡ N) },
+}
+
+// Clauses see the items, oldest first; the unused room does not show.
+impl<T, const N: usize> Model for Table<T, N> {
+    ghost use Rattle.std.specs.Prelude.{◌≡◌, ◌≤◌, List, length, take};
+
+    ghost Value = { List T };
+
+    ghost view = { λ t. take t.len t.items };
+
+    ghost invariant = { λ t. (t.len ≤ N) × (length t.items ≡ N) };
 }

@@ -1,9 +1,7 @@
 // What the history does: an entry leaves, a run is closed, and what follows from all that left.
-ghost use Rattle.std.specs.Prelude.{◌≡◌, ◌+◌, ◌<◌, [], ◌∷◌, ◌++◌, length};
-ghost use Rattle.tables.specs.Tables.{listed};
+ghost use Rattle.std.specs.Prelude.{◌≡◌, ◌<◌, [], length};
 ghost use Rattle.processor.specs.Departures.{count, floor};
-ghost use Rattle.processor.specs.Machine.{departure};
-ghost use Rattle.processor.specs.Memory.{Fits};
+ghost use Rattle.processor.specs.History.{past, left_next, closed};
 ghost use Rattle.processor.specs.Sources.{last_of, from_cached};
 
 use super::History;
@@ -11,6 +9,7 @@ use crate::departures::Departure;
 use crate::entries::Entry;
 use crate::floors::{count_of, floor_of};
 use crate::sources::{Source, last_cached};
+use crate::threads::Thread;
 use tables::Table;
 
 const NO_DEPARTURE: Departure = Departure {
@@ -22,8 +21,7 @@ const NO_DEPARTURE: Departure = Departure {
 
 impl History {
     pub(crate) fn new() -> History
-        ensures run { result.run ≡ 0 }
-        ensures left { listed result.left ≡ [] }
+        ensures { result ≡ past 0 [] }
     {
         History {
             run: 0,
@@ -40,63 +38,62 @@ impl History {
 
     // How many moments are taken in all runs.
     pub(crate) fn taken(&self) -> usize
-        ensures { result ≡ length (listed self.now.left) }
+        ensures { result ≡ length self.now.left }
     {
         self.left.len()
     }
 
     // All that left, oldest first.
     pub(crate) fn as_slice(&self) -> &[Departure]
-        ensures { result.now ≡ listed self.now.left }
+        ensures { result.now ≡ self.now.left }
     {
         self.left.as_slice()
     }
 
     // The count of a run.
     pub(crate) fn count(&self, run: u8) -> u16
-        ensures { result ≡ count run (listed self.now.left) }
+        ensures { result ≡ count run self.now.left }
     {
         count_of(self.left.as_slice(), run)
     }
 
     // The floor of a line in a run.
     pub(crate) fn floor(&self, run: u8, line: u8) -> u16
-        ensures { result ≡ floor run line (listed self.now.left) }
+        ensures { result ≡ floor run line self.now.left }
     {
         floor_of(self.left.as_slice(), run, line)
     }
 
     // The last store cached in the present run that covers the byte at an address.
     pub(crate) fn source(&self, at: u16) -> Option<Source>
-        ensures { result ≡ last_of (from_cached self.now.run at) (listed self.now.left) }
+        ensures { result ≡ last_of (from_cached self.now.run at) self.now.left }
     {
         last_cached(self.left.as_slice(), self.run, at)
     }
 
     // An entry of a thread leaves at the next moment of the present run.
-    pub(crate) fn leave(&mut self, thread: u8, entry: Entry)
-        requires thread { thread < 4 }
-        requires entry { Fits entry }
-        requires room { length (listed self.old.left) < 512 }
-        ensures run { self.new.run ≡ self.old.run }
-        ensures left { listed self.new.left ≡ listed self.old.left ++ departure self.old.run (listed self.old.left) thread entry ∷ [] }
+    pub(crate) fn leave(&mut self, thread: Thread, entry: Entry)
+        requires { length self.old.left < 512 }
+        ensures { self.new ≡ left_next thread entry self.old }
     {
         let moment = self.present_count + 1;
         let run = self.run;
-        self.present_count = moment;
-        let _has_room = self.left.push(Departure {
+        let Ok(()) = self.left.push(Departure {
             run,
             moment,
-            thread,
+            thread: u8::from(thread),
             entry,
-        });
+        })
+        else {
+            unreachable()
+        };
+        self.present_count = moment;
     }
 
     // A cut closes the present run, and the next one begins.
     pub(crate) fn close(&mut self)
         requires { self.old.run < 4 }
-        ensures run { self.new.run ≡ self.old.run + 1 }
-        ensures left { listed self.new.left ≡ listed self.old.left }
+        ensures { self.new ≡ closed self.old }
     {
         self.run += 1;
         self.present_count = 0;

@@ -1,11 +1,11 @@
 // Messages and recordings into the processor.
 ghost use Rattle.processor.specs.Logging.{Logs};
-ghost use Rattle.processor.specs.MachineView.{machine_of};
+ghost use Rattle.processor.specs.Operations.{InRange, Follows};
 ghost use Rattle.processor.specs.Playing.{Plays};
 
 use super::Processor;
 use crate::faults::CaseFault;
-use crate::operations::hear;
+use crate::operations::{Operation, hear};
 use message::Recording;
 
 // How a recording was played: how many of its messages were accepted, and the fault of the one after them, unless the
@@ -17,19 +17,30 @@ pub struct Playback {
 }
 
 impl Processor {
+    // What a message asks is done and the message counted, or it is refused with nothing changed.
+    fn follow(&mut self, operation: Operation) -> Result<(), CaseFault>
+        requires { InRange operation }
+        ensures { Follows operation self.old result self.new }
+    {
+        let accepted = self.accepted + 1;
+        self.perform(operation)?;
+        self.accepted = accepted;
+        Ok(())
+    }
+
     // One message: followed and counted, or refused with nothing changed.
     pub fn log(&mut self, message: &[u8]) -> Result<(), CaseFault>
-        ensures { Logs (machine_of self.old) message.now result (machine_of self.new) }
+        ensures { Logs self.old message.now result self.new }
     {
-        let operation = hear(message)?;
-        self.perform(operation)?;
-        self.accepted += 1;
-        Ok(())
+        match hear(message) {
+            Ok(operation) => self.follow(operation),
+            Err(fault) => Err(CaseFault::from(fault)),
+        }
     }
 
     // Logs message after message, up to the end of the recording or the first fault.
     pub fn play(&mut self, recording: &[u8]) -> Playback
-        ensures { Plays (machine_of self.old) recording.now result (machine_of self.new) }
+        ensures { Plays self.old recording.now result self.new }
     {
         let mut accepted = 0;
         for part in Recording::new(recording) {

@@ -2,10 +2,8 @@
 ghost use Rattle.std.specs.Prelude.{◌≡◌, ◌+◌, ◌<◌, length};
 ghost use Rattle.processor.specs.Laws.{Laws};
 ghost use Rattle.processor.specs.Machine.{opened, acted, drained, fenced, row};
-ghost use Rattle.processor.specs.MachineView.{machine_of};
-ghost use Rattle.processor.specs.Memory.{InLine, Fits};
-ghost use Rattle.processor.specs.Operations.{Performs, InRange};
-ghost use Rattle.processor.specs.Sources.{source, sources_of};
+ghost use Rattle.processor.specs.Operations.{Performs};
+ghost use Rattle.processor.specs.Sources.{source, source_within, sources_of};
 ghost use Rattle.processor.specs.declared.operations.Operation.TheVariants as asked;
 
 use super::Processor;
@@ -17,6 +15,8 @@ use crate::history::{CUTS, History, MOMENTS};
 use crate::loads::Load;
 use crate::operations::Operation;
 use crate::sources::{Source, last_waiting};
+use crate::threads::Thread;
+use std::array;
 use tables::Table;
 
 const NO_LOAD: Load = Load {
@@ -33,7 +33,7 @@ const NO_LOAD: Load = Load {
 impl Processor {
     // A case before its first message.
     pub fn open() -> Processor
-        ensures opened { machine_of result ≡ opened }
+        ensures opened { result ≡ opened }
         ensures laws { Laws }
     {
         Processor {
@@ -45,20 +45,17 @@ impl Processor {
     }
 
     // An entry of a thread takes the next moment and acts.
-    fn act(&mut self, thread: u8, entry: Entry)
-        requires thread { thread < 4 }
-        requires entry { Fits entry }
-        requires room { length (machine_of self.old).left < 512 }
-        ensures { machine_of self.new ≡ acted thread entry (machine_of self.old) }
+    fn act(&mut self, thread: Thread, entry: Entry)
+        requires { length self.old.left < 512 }
+        ensures { self.new ≡ acted thread entry self.old }
     {
         self.history.leave(thread, entry);
     }
 
     // The oldest entry of a thread leaves; where none waits, nothing changes.
-    fn leave(&mut self, thread: u8)
-        requires thread { thread < 4 }
-        requires room { length (machine_of self.old).left < 512 }
-        ensures { machine_of self.new ≡ drained thread (machine_of self.old) }
+    fn leave(&mut self, thread: Thread)
+        requires { length self.old.left < 512 }
+        ensures { self.new ≡ drained thread self.old }
     {
         if let Some(entry) = self.buffers.drain(thread) {
             self.history.leave(thread, entry);
@@ -66,10 +63,9 @@ impl Processor {
     }
 
     // All of the thread's entries leave in order, and then the fence takes a moment.
-    fn fence(&mut self, thread: u8)
-        requires thread { thread < 4 }
-        requires room { length (machine_of self.old).left + length (row (machine_of self.old) thread) < 512 }
-        ensures { machine_of self.new ≡ fenced thread (machine_of self.old) }
+    fn fence(&mut self, thread: Thread)
+        requires { length self.old.left + length (row self.old thread) < 512 }
+        ensures { self.new ≡ fenced thread self.old }
     {
         for _ in 0..self.buffers.row(thread).len() {
             self.leave(thread);
@@ -78,43 +74,47 @@ impl Processor {
     }
 
     // Which store of the present run gives a thread the byte at an address.
-    fn source(&self, thread: u8, at: u16) -> Option<Source>
-        requires { thread < 4 }
-        ensures { result ≡ source (machine_of self.now) thread at }
+    fn source(&self, thread: Thread, at: u16) -> Option<Source>
+        ensures { result ≡ source self.now thread at }
     {
         let waiting = last_waiting(self.buffers.row(thread), at);
         waiting.or(self.history.source(at))
     }
 
-    // The same for each byte of an access.
-    fn sources(&self, thread: u8, access: &Access) -> [Option<Source>; 8]
-        requires thread { thread < 4 }
-        requires access { InLine access.now }
-        ensures { result ≡ sources_of (machine_of self.now) thread access.now }
+    // The same for the byte of an access at a place, if it has one there.
+    fn source_within(&self, thread: Thread, access: &Access, place: usize) -> Option<Source>
+        ensures { result ≡ source_within self.now thread access.now place }
     {
-        let mut sources = [None; 8];
-        for i in 0..access.width {
-            sources[i as usize] = self.source(thread, access.address + i as u16);
+        if place < access.width as usize {
+            self.source(thread, access.address + place as u16)
+        } else {
+            None
         }
-        sources
+    }
+
+    // The same for each byte of an access.
+    fn sources(&self, thread: Thread, access: &Access) -> [Option<Source>; 8]
+        ensures { result ≡ sources_of self.now thread access.now }
+    {
+        array::from_fn(|place| self.source_within(thread, access, place))
     }
 
     // An entry enters its thread's buffer.
-    fn enter(&mut self, thread: u8, entry: Entry) -> Result<(), CaseFault>
-        requires { InRange (asked.Enter thread entry) }
-        ensures { Performs (asked.Enter thread entry) (machine_of self.old) result (machine_of self.new) }
+    fn enter(&mut self, thread: Thread, entry: Entry) -> Result<(), CaseFault>
+        ensures { Performs (asked.Enter thread entry) self.old result self.new }
     {
         self.buffers.push(thread, entry)?;
         Ok(())
     }
 
     // The oldest of a thread's waiting entries leaves.
-    fn drain(&mut self, thread: u8) -> Result<(), CaseFault>
-        requires { InRange (asked.Drain thread) }
-        ensures { Performs (asked.Drain thread) (machine_of self.old) result (machine_of self.new) }
+    fn drain(&mut self, thread: Thread) -> Result<(), CaseFault>
+        ensures { Performs (asked.Drain thread) self.old result self.new }
     {
         if self.buffers.row(thread).is_empty() {
-            return Err(CaseFault::Buffer(BufferFault::Empty { thread }));
+            return Err(CaseFault::Buffer(BufferFault::Empty {
+                thread: u8::from(thread),
+            }));
         }
         if self.history.taken() >= MOMENTS {
             return Err(CaseFault::Moments {
@@ -126,9 +126,8 @@ impl Processor {
     }
 
     // A full fence, unless the moments that it needs are too many.
-    fn full_fence(&mut self, thread: u8) -> Result<(), CaseFault>
-        requires { InRange (asked.FullFence thread) }
-        ensures { Performs (asked.FullFence thread) (machine_of self.old) result (machine_of self.new) }
+    fn full_fence(&mut self, thread: Thread) -> Result<(), CaseFault>
+        ensures { Performs (asked.FullFence thread) self.old result self.new }
     {
         let leaving = self.buffers.row(thread).len();
         if self.history.taken() + leaving + 1 > MOMENTS {
@@ -141,27 +140,23 @@ impl Processor {
     }
 
     // A load is kept, with the stores of this run that give its bytes.
-    fn keep_load(&mut self, thread: u8, access: Access) -> Result<(), CaseFault>
-        requires { InRange (asked.Load thread access) }
-        ensures { Performs (asked.Load thread access) (machine_of self.old) result (machine_of self.new) }
+    fn keep_load(&mut self, thread: Thread, access: Access) -> Result<(), CaseFault>
+        ensures { Performs (asked.Load thread access) self.old result self.new }
     {
         let run = self.history.run();
         let sources = self.sources(thread, &access);
         let load = Load {
             run,
-            thread,
+            thread: u8::from(thread),
             access,
             sources,
         };
-        if !self.loads.push(load) {
-            return Err(CaseFault::Loads { run });
-        }
-        Ok(())
+        self.loads.push(load).map_err(|_| CaseFault::Loads { run })
     }
 
     // A cut closes the run, and loses the buffers; flush sets go with the run.
     fn cut(&mut self) -> Result<(), CaseFault>
-        ensures { Performs asked.PowerCut (machine_of self.old) result (machine_of self.new) }
+        ensures { Performs asked.PowerCut self.old result self.new }
     {
         if self.history.run() >= CUTS {
             return Err(CaseFault::Cuts {
@@ -175,8 +170,7 @@ impl Processor {
 
     // What a message asks.
     pub(super) fn perform(&mut self, operation: Operation) -> Result<(), CaseFault>
-        requires { InRange operation }
-        ensures { Performs operation (machine_of self.old) result (machine_of self.new) }
+        ensures { Performs operation self.old result self.new }
     {
         match operation {
             Operation::Enter { thread, entry } => self.enter(thread, entry),

@@ -1,13 +1,13 @@
 // What a table does.
-ghost use Rattle.std.specs.Prelude.{◌≡◌, [], ◌∷◌, ◌++◌, length, if◌then◌else◌, nat_lt};
-ghost use Rattle.tables.specs.Tables.{listed};
+ghost use Rattle.std.specs.Prelude.{◌≡◌, ◌<◌, ◌≤◌, [], ◌∷◌, ◌++◌, length, MatchOption, MatchResult};
 
 use super::Table;
+use crate::full::Full;
 
 impl<T: Copy, const N: usize> Table<T, N> {
     // An empty table; `blank` fills the room that is not used yet.
     pub fn new(blank: T) -> Table<T, N>
-        ensures { listed result ≡ [] }
+        ensures { result ≡ [] }
     {
         Table {
             items: [blank; N],
@@ -17,28 +17,49 @@ impl<T: Copy, const N: usize> Table<T, N> {
 
     // The items, oldest first.
     pub fn as_slice(&self) -> &[T]
-        ensures { result.now ≡ listed self.now }
+        ensures items { result.now ≡ self.now }
+        ensures room { length self.now ≤ N }
     {
         let room = &self.items[..];
         &room[0..self.len]
     }
 
     pub fn len(&self) -> usize
-        ensures { result ≡ length (listed self.now) }
+        ensures items { result ≡ length self.now }
+        ensures room { length self.now ≤ N }
     {
         self.as_slice().len()
     }
 
-    // Adds an item at the end; false, and nothing changed, where there is no room.
-    pub fn push(&mut self, item: T) -> bool
-        ensures room { result ≡ nat_lt (length (listed self.old)) N }
-        ensures items { listed self.new ≡ (if result then listed self.old ++ item ∷ [] else listed self.old) }
+    // Adds an item at the end; where there is no room, nothing changes.
+    pub fn push(&mut self, item: T) -> Result<(), Full>
+        ensures { MatchResult result (λ _. (length self.old < N) × (self.new ≡ self.old ++ item ∷ [])) (λ _. (N ≤ length self.old) × (self.new ≡ self.old)) }
     {
         if self.len >= N {
-            return false;
+            return Err(Full);
         }
         self.items[self.len] = item;
         self.len += 1;
-        true
+        Ok(())
+    }
+
+    // The oldest item leaves.
+    pub fn take_first(&mut self) -> Option<T>
+        ensures { MatchOption result ((self.old ≡ []) × (self.new ≡ [])) (λ x. self.old ≡ x ∷ self.new) }
+    {
+        if self.len == 0 {
+            return None;
+        }
+        let oldest = self.items[0];
+        self.items.rotate_left(1);
+        self.len -= 1;
+        Some(oldest)
+    }
+
+    // Every item is lost.
+    pub fn clear(&mut self)
+        ensures { self.new ≡ [] }
+    {
+        self.len = 0;
     }
 }

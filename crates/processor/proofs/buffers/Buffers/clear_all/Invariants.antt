@@ -1,6 +1,6 @@
 use Rattle.std.proofs.Common.{◌≡◌, ℕ, ◌<◌, [], length}
-use Rattle.processor.specs.Waiting.{waits, row_of}
+use Rattle.processor.specs.Waiting.{row_of}
 use Rattle.processor.proofs.buffers.Buffers.clear_all.Given as goal
 
 abbrev pub invariant-loop-thread : goal.invariant-loop-thread
-invariant-loop-thread l = (length (waits l.self) ≡ 4) × ((k : ℕ) → k < l.thread → row_of l.self k ≡ [])
+invariant-loop-thread l = (length l.self.rows ≡ 4) × ((k : ℕ) → k < l.thread-index → row_of l.self.rows k ≡ [])

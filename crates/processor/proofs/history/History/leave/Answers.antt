@@ -1,25 +1,16 @@
-use Rattle.std.proofs.Common.{refl, arith}
-use Rattle.tables.specs.Tables.{listed}
-use Rattle.processor.proofs.HistoryLaws.{count_few}
-use Rattle.processor.proofs.HistorySteps.{left_facts, pushed_is}
+use Rattle.std.proofs.Common.{length, ap, arith}
+use Rattle.processor.specs.History.{Past, past}
+use Rattle.processor.proofs.HistoryLaws.{count_few, counts_next}
 use Rattle.processor.proofs.history.History.leave.Goals as goal
 
 pub overflow_add-moment : goal.overflow_add-moment
 overflow_add-moment c =
-    let h = c.args.self.now in
-    omega (arith, h.counted, count_few h.run (listed h.left), c.requires.room)
+    let h = c.self.inside in
+    omega (arith, c.self.invariant.present, count_few h.run h.left, ap (λ (p : Past). length p.left) c.self.view_is, c.requires)
 
 pub invariant_of-self : goal.invariant_of-self
 invariant_of-self c =
-    let h = c.args.self.now in
-    let E = listed c.push-has_room.new.self in
-    left_facts h c.args.thread c.args.entry E c.requires.thread c.requires.entry
-    (pushed_is h c.args.thread c.args.entry E c.push-has_room.result c.push-has_room.ensures.room c.push-has_room.ensures.items c.requires.room)
-
-pub returns : goal.returns
-returns c =
-    let h = c.args.self.now in
-    record {
-      run = refl;
-      left = pushed_is h c.args.thread c.args.entry (listed c.push-has_room.new.self) c.push-has_room.result c.push-has_room.ensures.room c.push-has_room.ensures.items c.requires.room;
-    }
+    let h = c.self.inside in
+    let n = h.present_count in
+    let next = counts_next (past h.run h.left) n c.args.thread c.args.entry c.self.invariant (omega (arith, c.from.ensures)) in
+    rw (c.in-Ok.ensures.1, c.from.ensures.0, c.self.invariant.present) (rw (c.self.invariant.present) at next)

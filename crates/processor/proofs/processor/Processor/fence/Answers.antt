@@ -1,30 +1,19 @@
-use Rattle.std.proofs.Common.{◌≡◌, ℕ, List, length, sym, ap, ◌∙◌, add-one, arith}
-use Rattle.processor.specs.Machine.{Machine, acted, drained, drained_by, row}
-use Rattle.processor.specs.MachineView.{machine_of}
+use Rattle.std.proofs.Common.{ℕ, List, length, ap, ◌∙◌, arith}
+use Rattle.processor.specs.Machine.{Machine, row}
 use Rattle.processor.specs.declared.entries.Entry.{Entry}
-use Rattle.processor.specs.declared.entries.Entry.TheVariants.{StoreFence}
 use Rattle.processor.proofs.Bounds.{taken_drained_by}
 use Rattle.processor.proofs.processor.Processor.fence.Goals as goal
 
 pub leave-requires : goal.leave-requires
-leave-requires c = record {
-  thread = c.requires.thread;
-  room = omega (arith, ap (λ (m : Machine). length m.left) c.loop.invariant, taken_drained_by c.loop.counter c.args.thread (machine_of c.args.self.now), c.requires.room, ap (λ (l : List Entry). length l) c.row-end.ensures.entries, c.loop-test.true);
-}
-
-pub loop-preserved : goal.loop-preserved
-loop-preserved c = c.leave.ensures ∙ (ap (drained c.args.thread) c.loop.invariant ∙ ap (λ n. drained_by n c.args.thread (machine_of c.args.self.now)) (sym (add-one c.loop.counter)))
+leave-requires c =
+    let m = c.args.self.now in
+    let t : ℕ = c.args.thread in
+    let waiting = ap (λ (l : List Entry). length l) (c.row-end.ensures ∙ ap (λ (x : Machine). row x t) c.self.view_is) in
+    omega (arith, ap (λ (x : Machine). length x.left) c.loop.invariant, taken_drained_by c.loop.counter t m, c.requires, c.loop-test.true)
 
 pub act-requires : goal.act-requires
-act-requires c = record {
-  thread = c.requires.thread;
-  entry = tt;
-  room = omega (arith, ap (λ (m : Machine). length m.left) c.loop.invariant, taken_drained_by c.loop.counter c.args.thread (machine_of c.args.self.now), c.requires.room, ap (λ (l : List Entry). length l) c.row-end.ensures.entries, c.loop.auto.counter-end);
-}
-
-pub returns : goal.returns
-returns c =
-    let m = machine_of c.args.self.now in
+act-requires c =
+    let m = c.args.self.now in
     let t : ℕ = c.args.thread in
-    let all : c.loop.counter ≡ length (row m t) = omega (arith, ap (λ (l : List Entry). length l) c.row-end.ensures.entries, c.loop.auto.counter-end, c.loop-test.false) in
-    c.act.ensures ∙ ap (acted t StoreFence) (c.loop.invariant ∙ ap (λ n. drained_by n t m) all)
+    let waiting = ap (λ (l : List Entry). length l) (c.row-end.ensures ∙ ap (λ (x : Machine). row x t) c.self.view_is) in
+    omega (arith, ap (λ (x : Machine). length x.left) c.loop.invariant, taken_drained_by c.loop.counter t m, c.requires, c.loop.auto.counter-end)

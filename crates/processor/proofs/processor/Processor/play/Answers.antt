@@ -1,6 +1,5 @@
 use Rattle.std.proofs.Common.{◌≡◌, ℕ, List, length, sym, ap, ◌∙◌, arith, Bor}
 use Rattle.message.specs.Recordings.{part_at}
-use Rattle.processor.specs.MachineView.{machine_of}
 use Rattle.processor.proofs.Played.{part_accepted}
 use Rattle.processor.proofs.processor.Processor.play.Goals as goal
 
@@ -19,5 +18,5 @@ loop-part-preserved c =
       ap (λ (r : Bor (List ℕ)). r.now) step.2 ∙ same,
       omega (arith, inv.3, step.3),
       omega (arith, place, step.1.within, ap length same),
-      part_accepted (machine_of c.args.self.now) (machine_of c.loop-part.self) (machine_of c.log.new.self) whole n part inv.5 is c.in-Ok.ensures,
+      part_accepted c.args.self.now c.loop-part.self c.log.new.self whole n part inv.5 is c.in-Ok.ensures,
     )

@@ -1,5 +1,4 @@
 use Rattle.std.proofs.Common.{◌≡◌, ◌+◌, ◌*◌, ◌<◌, length}
-use Rattle.processor.specs.MachineView.{machine_of}
 use Rattle.processor.specs.Playing.{Accepts, parts}
 use Rattle.processor.proofs.processor.Processor.play.Given as goal
 
@@ -10,4 +9,4 @@ invariant-loop-part l =
     × (l.part-iterator.bytes.now ≡ l.recording)
     × (l.accepted ≡ l.part-iterator.next)
     × (16 * l.accepted < length l.recording + 16)
-    × Accepts (machine_of l.initial.self) (parts l.recording l.accepted) (machine_of l.self)
+    × Accepts l.initial.self (parts l.recording l.accepted) l.self
