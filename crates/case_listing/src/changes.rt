@@ -1,12 +1,10 @@
 // What a message changed in the case.
-use case_wording::{EntryName, SourceName};
-use message::{Event, Kind};
+use message::{Kind, KnownEvent, LINES, THREADS};
 use processor::{Departure, Load, Processor};
-use std::io;
+use std::{array, io};
 
-const LINES: usize = 64;
-
-const THREADS: u8 = 4;
+// The floors of a run, by line.
+type Floors = [u16; LINES as usize];
 
 // The case before a message, as far as it takes to tell what changed.
 #[derive(Clone, Copy)]
@@ -14,25 +12,18 @@ pub(crate) struct Before {
     run: u8,
     left: usize,
     waiting: usize,
-    floors: [u16; LINES],
+    floors: Floors,
 }
 
-// The floors of a run, by line.
-fn floors_of(processor: &Processor, run: u8) -> [u16; LINES] {
-    let mut floors = [0; LINES];
-    for line in 0..LINES {
-        floors[line] = processor.floor(run, line as u8);
-    }
-    floors
+fn floors_of(processor: &Processor, run: u8) -> Floors {
+    array::from_fn(|line| processor.floor(run, line as u8))
 }
 
 // How many entries wait in all.
 fn waiting_in_all(processor: &Processor) -> usize {
-    let mut all: usize = 0;
-    for thread in 0..THREADS {
-        all = all.saturating_add(processor.waiting(thread).len());
-    }
-    all
+    (0..THREADS)
+        .map(|thread| processor.waiting(thread).len())
+        .fold(0, usize::saturating_add)
 }
 
 impl Before {
@@ -49,16 +40,15 @@ impl Before {
 }
 
 fn tell_departure(rt: &HostRuntime, departure: &Departure) -> io::Result<()> {
-    let entry = EntryName(departure.entry);
+    let entry = departure.entry;
     let moment = departure.moment;
     println!(rt; "    {entry} leaves at moment {moment}")
 }
 
 fn tell_floors(rt: &HostRuntime, before: &Before, processor: &Processor) -> io::Result<()> {
     let floors = floors_of(processor, before.run);
-    for line in 0..LINES {
-        let floor = floors[line];
-        if floor != before.floors[line] {
+    for (line, (floor, old)) in floors.iter().zip(before.floors.iter()).enumerate() {
+        if floor != old {
             println!(rt; "    the floor of line {line} is now {floor}")?;
         }
     }
@@ -75,15 +65,12 @@ fn tell_left(rt: &HostRuntime, before: &Before, processor: &Processor) -> io::Re
 
 // What left by a full fence, which is the last to leave.
 fn tell_fence(rt: &HostRuntime, before: &Before, processor: &Processor) -> io::Result<()> {
-    let left = processor.left();
-    let all = left.len();
-    for (i, departure) in left.iter().enumerate().skip(before.left) {
-        if i < all - 1 {
+    if let Some((fence, entries)) = processor.left().split_last() {
+        for departure in entries.iter().skip(before.left) {
             tell_departure(rt, departure)?;
-        } else {
-            let moment = departure.moment;
-            println!(rt; "    the fence takes moment {moment}")?;
         }
+        let moment = fence.moment;
+        println!(rt; "    the fence takes moment {moment}")?;
     }
     tell_floors(rt, before, processor)
 }
@@ -94,30 +81,30 @@ fn tell_load(rt: &HostRuntime, number: usize, load: &Load) -> io::Result<()> {
     let width = load.access.width as usize;
     for (i, source) in load.sources.iter().take(width).enumerate() {
         let address = (load.access.address as usize).saturating_add(i);
-        let name = SourceName(*source);
-        println!(rt; "    byte {address}: {name}")?;
+        match source {
+            Some(source) => println!(rt; "    byte {address}: {source}")?,
+            None => println!(rt; "    byte {address}: no store of this run")?,
+        }
     }
     Ok(())
 }
 
 fn tell_kept(rt: &HostRuntime, processor: &Processor) -> io::Result<()> {
-    let loads = processor.loads();
-    match loads.last() {
-        Some(load) => tell_load(rt, loads.len() - 1, load),
-        None => Ok(()),
-    }
+    let Some((load, older)) = processor.loads().split_last() else {
+        return Ok(());
+    };
+    tell_load(rt, older.len(), load)
 }
 
 pub(crate) fn tell_changes(
     rt: &HostRuntime,
     before: &Before,
-    kind: Kind,
-    event: &Event,
+    known: &KnownEvent,
     processor: &Processor,
 ) -> io::Result<()> {
-    match kind {
+    match known.kind {
         Kind::Store | Kind::StrongFlush | Kind::WeakFlush | Kind::StoreFence => {
-            let thread = event.thread;
+            let thread = known.event.thread;
             let place = processor.waiting(thread).len();
             println!(rt; "    waits as entry {place} of thread {thread}")
         }

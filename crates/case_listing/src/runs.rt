@@ -1,9 +1,7 @@
 // The table of the runs at the end of a listing.
-use case_wording::EntryName;
+use message::LINES;
 use processor::{Entry, Processor};
 use std::io;
-
-const LINES: u8 = 64;
 
 fn tell_stores(rt: &HostRuntime, processor: &Processor, run: u8) -> io::Result<()> {
     for departure in processor.left() {
@@ -11,7 +9,7 @@ fn tell_stores(rt: &HostRuntime, processor: &Processor, run: u8) -> io::Result<(
             && let Entry::Store(_) = departure.entry
         {
             let moment = departure.moment;
-            let store = EntryName(departure.entry);
+            let store = departure.entry;
             println!(rt; "  moment {moment}: {store}")?;
         }
     }

@@ -12,10 +12,10 @@ use Rattle.message.specs.declared.faults.MessageFault.TheVariants as faults
 use Rattle.message.specs.declared.events.Event.{Event}
 use Rattle.message.specs.declared.kinds.Kind.{Kind}
 use Rattle.message.specs.declared.kinds.Kind.TheVariants as kind
+use Rattle.message.specs.declared.known.KnownEvent.{KnownEvent}
 use Rattle.processor.specs.Memory.{InLine}
 use Rattle.processor.specs.Logging.{Heard}
 use Rattle.processor.specs.Operations.{access_of, operation, operation_for, InRange}
-use Rattle.processor.specs.declared.operations.Operation.{Operation}
 
 -- ── a number that is not refused ──
 not_above : (n k : ℕ) → (k < n → ⊥) → n ≤ k
@@ -76,19 +76,12 @@ in_its_range b read kind.Load known = (a_thread b read kind.Load known refl, an_
 in_its_range b read kind.PowerCut known = tt
 
 -- ── the event that was read ──
-module _ (b : List ℕ) (e : Event) (r : Reading b (Ok e)) where
-  same_kind : (o : Option Kind) → kind_of e.kind ≡ o → kind_of (field b 0) ≡ o
-  same_kind o h = ap (λ (x : Event). kind_of x.kind) (sym r.1) ∙ h
+module _ (b : List ℕ) (k : KnownEvent) (r : Reading b (Ok k.event)) where
+  same_kind : kind_of (field b 0) ≡ Some k.kind
+  same_kind = ap (λ (x : Event). kind_of x.kind) (sym r.1) ∙ k.known
 
-  pub unknown : kind_of e.kind ≡ None → ⊥
-  unknown h = r.0 faults.Kind (same_kind None h)
+  pub heard : Heard b k
+  heard = record { read = r; in_range = subst (λ (x : Event). InRange (operation k.kind x)) (sym r.1) (in_its_range b r.0 k.kind same_kind) }
 
-  pub is_in_range : (k : Kind) → kind_of e.kind ≡ Some k → InRange (operation k e)
-  is_in_range k h = subst (λ (x : Event). InRange (operation k x)) (sym r.1) (in_its_range b r.0 k (same_kind (Some k) h))
-
-  pub heard : (k : Kind) → kind_of e.kind ≡ Some k → (o : Operation) → o ≡ operation k e → Heard b o
-  heard k h o is = record {
-    read = r.0;
-    asks = ap (λ (x : Event). operation_for x) (sym r.1) ∙ (ap (option_map (λ j. operation j e)) h ∙ ap (λ (x : Operation). Some x) (sym is));
-    in_range = subst InRange (sym is) (is_in_range k h);
-  }
+  pub asked : operation_for (event_of b) ≡ Some (operation k.kind k.event)
+  asked = ap (λ (x : Event). operation_for x) (sym r.1) ∙ ap (option_map (λ j. operation j k.event)) k.known

@@ -71,6 +71,6 @@ Performs o m (Ok _) m' = NoneHolds (Refuses m o) × (m' ≡ step o m)
 Performs o m (Err f) m' = Comes case_number (Refuses m o) f × (m' ≡ m)
 
 -- the same with a count of what is done
-abbrev pub Follows : Operation → Machine → Result (Unit {0}) CaseFault → Machine → Type 0
-Follows o m (Ok _) m' = NoneHolds (Refuses m o) × (m' ≡ counted (step o m))
-Follows o m (Err f) m' = Comes case_number (Refuses m o) f × (m' ≡ m)
+abbrev pub CarriesOut : Operation → Machine → Result (Unit {0}) CaseFault → Machine → Type 0
+CarriesOut o m (Ok _) m' = NoneHolds (Refuses m o) × (m' ≡ counted (step o m))
+CarriesOut o m (Err f) m' = Comes case_number (Refuses m o) f × (m' ≡ m)

@@ -13,6 +13,7 @@ mod operations;
 mod processor;
 mod sources;
 mod threads;
+mod words;
 
 pub use accesses::Access;
 pub use departures::Departure;

@@ -9,7 +9,7 @@ use crate::accesses::Access;
 use crate::entries::Entry;
 use crate::faults::BufferFault;
 use crate::threads::Thread;
-use message::{Event, Kind, read};
+use message::{Event, Kind, KnownEvent};
 
 #[derive(Clone, Copy)]
 pub enum Operation {
@@ -46,7 +46,7 @@ fn line_of(event: &Event) -> u8
     requires { event.now.address < 4096 }
     ensures { result ≡ line event.now.address }
 {
-    (event.address / 64) as u8
+    event.line() as u8
 }
 
 // An entry enters the buffer of the event's thread.
@@ -60,12 +60,13 @@ fn enter(event: &Event, entry: Entry) -> Operation
     }
 }
 
-// What an event of a kind asks.
-fn operation_of(kind: Kind, event: &Event) -> Operation
-    requires { InRange (operation kind event.now) }
-    ensures { result ≡ operation kind event.now }
+// What an event asks.
+pub(crate) fn operation_of(known: &KnownEvent) -> Operation
+    requires { InRange (operation known.now.kind known.now.event) }
+    ensures { result ≡ operation known.now.kind known.now.event }
 {
-    match kind {
+    let event = &known.event;
+    match known.kind {
         Kind::Store => enter(event, Entry::Store(access_of(event))),
         Kind::StrongFlush => enter(
             event,
@@ -94,13 +95,10 @@ fn operation_of(kind: Kind, event: &Event) -> Operation
     }
 }
 
-// What a message asks, or why it is none.
-pub(crate) fn hear(message: &[u8]) -> Result<Operation, BufferFault>
-    ensures { MatchResult result (λ o. Heard message.now o) (λ f. NotHeard message.now f) }
+// The event of a message, or why it is none.
+pub(crate) fn hear(message: &[u8]) -> Result<KnownEvent, BufferFault>
+    ensures { MatchResult result (λ k. Heard message.now k) (λ f. NotHeard message.now f) }
 {
-    let event = read(message)?;
-    let Some(kind) = Kind::of(event.kind) else {
-        unreachable()
-    };
-    Ok(operation_of(kind, &event))
+    let event = KnownEvent::read(message)?;
+    Ok(event)
 }

@@ -50,9 +50,9 @@ impl<'a> Row<'a> {
     }
 }
 
-// A fault by its numbers.
-#[derive(Clone, Copy)]
-struct Code(FaultCode);
+// A fault by its three numbers.
+#[derive(Clone, Copy, Debug, PartialEq, Eq, Hash)]
+pub struct Code(pub FaultCode);
 
 impl fmt::Display for Code {
     fn fmt<W: fmt::Write>(&self, f: &mut fmt::Formatter<W>) -> fmt::Result {

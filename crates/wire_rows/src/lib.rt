@@ -11,6 +11,6 @@ mod rows;
 #[cfg(test)]
 mod tests;
 
-pub use answers::Answer;
+pub use answers::{Answer, Code};
 pub use hex::bytes_of;
 pub use rows::Row;

@@ -1,12 +1,12 @@
 // Messages and recordings into the processor.
-ghost use Rattle.processor.specs.Logging.{Logs};
-ghost use Rattle.processor.specs.Operations.{InRange, Follows};
+ghost use Rattle.processor.specs.Logging.{Logs, Follows};
+ghost use Rattle.processor.specs.Operations.{InRange, CarriesOut};
 ghost use Rattle.processor.specs.Playing.{Plays};
 
 use super::Processor;
 use crate::faults::CaseFault;
-use crate::operations::{Operation, hear};
-use message::Recording;
+use crate::operations::{Operation, hear, operation_of};
+use message::{Follower, KnownEvent, Recording};
 
 // How a recording was played: how many of its messages were accepted, and the fault of the one after them, unless the
 // recording ended there.
@@ -18,9 +18,9 @@ pub struct Playback {
 
 impl Processor {
     // What a message asks is done and the message counted, or it is refused with nothing changed.
-    fn follow(&mut self, operation: Operation) -> Result<(), CaseFault>
+    fn carry_out(&mut self, operation: Operation) -> Result<(), CaseFault>
         requires { InRange operation }
-        ensures { Follows operation self.old result self.new }
+        ensures { CarriesOut operation self.old result self.new }
     {
         let accepted = self.accepted + 1;
         self.perform(operation)?;
@@ -32,10 +32,8 @@ impl Processor {
     pub fn log(&mut self, message: &[u8]) -> Result<(), CaseFault>
         ensures { Logs self.old message.now result self.new }
     {
-        match hear(message) {
-            Ok(operation) => self.follow(operation),
-            Err(fault) => Err(CaseFault::from(fault)),
-        }
+        self.follow(message)?;
+        Ok(())
     }
 
     // Logs message after message, up to the end of the recording or the first fault.
@@ -58,5 +56,17 @@ impl Processor {
             accepted,
             fault: None,
         }
+    }
+}
+
+impl Follower for Processor {
+    type Fault = CaseFault;
+
+    ghost follows = { Follows };
+
+    fn follow(&mut self, message: &[u8]) -> Result<KnownEvent, CaseFault> {
+        let event = hear(message)?;
+        self.carry_out(operation_of(&event))?;
+        Ok(event)
     }
 }

@@ -1,7 +1,7 @@
 use Rattle.std.proofs.Common.{ap, ◌∙◌, arith}
 use Rattle.processor.specs.Machine.{Machine}
 use Rattle.processor.proofs.Steps.{bound_small, counted_is, counted-facts}
-use Rattle.processor.proofs.processor.Processor.follow.Goals as goal
+use Rattle.processor.proofs.processor.Processor.carry_out.Goals as goal
 
 pub overflow_add-accepted : goal.overflow_add-accepted
 overflow_add-accepted c = omega (arith, c.self.invariant.counted, bound_small _ c.self.invariant)
