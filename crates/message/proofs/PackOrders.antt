@@ -1,6 +1,6 @@
 -- The refusal that the checks of packing find is the first whose condition holds.
-use Rattle.std.proofs.Common.{◌≡◌, ℕ, ◌<◌, ◌≤◌, Some, sym, subst, arith, lit<, lit≤, rules}
-use Rattle.message.specs.Checks.{FieldsFit, ValueFits, NotEncoded}
+use Rattle.std.proofs.Common.{◌≡◌, ℕ, ◌<◌, ◌≤◌, Some, subst, arith, lit<, lit≤, rules}
+use Rattle.message.specs.Checks.{FieldsFit, ValueFits}
 use Rattle.message.specs.Faults.{pack_code}
 use Rattle.message.specs.Fields.{FieldRefused}
 use Rattle.message.specs.Format.{Stands}
@@ -8,12 +8,10 @@ use Rattle.message.specs.Kinds.{kind_of, map_of}
 use Rattle.message.specs.Packing.{PackRefused}
 use Rattle.message.specs.Refusals.{Comes, NoneHolds}
 use Rattle.message.specs.declared.events.Event.{Event}
-use Rattle.message.specs.declared.faults.FieldFault.TheVariants.{Thread, Address, Width, Unaligned}
 use Rattle.message.specs.declared.faults.PackFault.{PackFault}
 use Rattle.message.specs.declared.faults.PackFault.TheVariants.{Kind, Field, Value, Short}
 use Rattle.message.specs.declared.kinds.Kind as kinds
-use Rattle.message.specs.declared.kinds.Kind.TheVariants.{Store}
-use Rattle.message.proofs.FieldOrders.{map_known, FieldsPassed, fields_before, field_holds, field_late, field_most}
+use Rattle.message.proofs.FieldOrders.{map_known, FieldsPassed, fields_before, field_late, field_most}
 
 -- the checks of a smaller number than n have passed
 record Passed (e : Event) (k : kinds.Kind) (n : ℕ) : Type 0 where
@@ -32,36 +30,6 @@ none_before e room k n most p Value l h =
     let s : Stands (map_of k) 4 = subst (λ (m : ℕ). Stands m 4) (map_known e.kind k (p.kind (omega arith))) h.0 in
     omega (arith, p.value l s, h.1)
 none_before e room k n most p Short l h = omega arith
-
-abbrev kind_in : (e : Event) (f : PackFault) → NotEncoded e f → kinds.Kind
-kind_in e Kind r = Store
-kind_in e (Field f) r = r.0
-kind_in e Value r = r.0
-kind_in e Short r = Store
-
-passed : (e : Event) (f : PackFault) (r : NotEncoded e f) → Passed e (kind_in e f r) (pack_code f).number
-passed e Kind r = search rules
-passed e (Field Thread) r = search rules
-passed e (Field Address) r = search rules
-passed e (Field Width) r = search rules
-passed e (Field Unaligned) r = search rules
-passed e Value r = search rules
-passed e Short r = absurd r
-
-most : (f : PackFault) → (pack_code f).number ≤ 18
-most Kind = lit≤ tt
-most (Field f) = omega (arith, field_most f)
-most Value = lit≤ tt
-most Short = lit≤ tt
-
-holds : (e : Event) (room : ℕ) (f : PackFault) → NotEncoded e f → PackRefused e room f
-holds e room Kind r = r
-holds e room (Field f) r = subst (λ (m : ℕ). FieldRefused m e f) (sym (map_known e.kind r.0 r.1)) (field_holds r.0 e f r.2)
-holds e room Value r = (subst (λ (m : ℕ). Stands m 4) (sym (map_known e.kind r.0 r.1)) r.3, omega (arith, r.4))
-holds e room Short r = absurd r
-
-pub pack_comes : (e : Event) (room : ℕ) (f : PackFault) → NotEncoded e f → Comes (λ g. (pack_code g).number) (PackRefused e room) f
-pack_comes e room f r = record { holds = holds e room f r; first = none_before e room (kind_in e f r) (pack_code f).number (most f) (passed e f r) }
 
 module _ (e : Event) (room : ℕ) (k : kinds.Kind) (kind : kind_of e.kind ≡ Some k) (fields : FieldsFit k e) (value : ValueFits k e) where
   before_short : Passed e k 18

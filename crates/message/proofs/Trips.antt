@@ -3,40 +3,27 @@ use Rattle.std.proofs.Common.{◌≡◌, ℕ, ◌+◌, ◌^◌, ◌<◌, ◌≤�
 use Rattle.std.proofs.lemmas.List.{get_or_past, get_or-take, get_or-drop, length-take, length-drop, take_at}
 use Rattle.std.proofs.lemmas.Bool.{cases_lt}
 use Rattle.message.specs.Checks.{event_at, bytes_at, FieldsFit, ValueFits, Decodes, NotDecoded, Encodes}
-use Rattle.message.specs.Faults.{message_code, pack_code}
+use Rattle.message.specs.Faults.{pack_code}
 use Rattle.message.specs.Format.{Stands, fields_end, little, map_at, Zeros}
 use Rattle.message.specs.Kinds.{kind_of, map_of, map_for}
 use Rattle.message.specs.KnownEvents.{ReadingKnown}
 use Rattle.message.specs.Packing.{within, carried, laid, message_of, PackRefused, Packing}
-use Rattle.message.specs.Reading.{event_of, Refused, Reading}
+use Rattle.message.specs.Reading.{event_of, Reading}
 use Rattle.message.specs.Refusals.{Comes}
 use Rattle.message.specs.Trips.{ReadsBack, PacksBack}
 use Rattle.message.specs.declared.events.Event.{Event}
 use Rattle.message.specs.declared.faults.MessageFault.{MessageFault}
-use Rattle.message.specs.declared.faults.MessageFault.TheVariants.{Length, Map, Kind, MapOfKind, Filler, Field, Value}
 use Rattle.message.specs.declared.faults.PackFault.{PackFault}
 use Rattle.message.specs.declared.faults.PackFault.TheVariants.{Short}
 use Rattle.message.specs.declared.kinds.Kind as kinds
 use Rattle.message.specs.declared.known.KnownEvent.{KnownEvent}
-use Rattle.message.proofs.FieldOrders.{map_known, field_late}
+use Rattle.message.proofs.FieldOrders.{map_known}
 use Rattle.message.proofs.Numbers.{Bytes, little_below}
 use Rattle.message.proofs.Orders.{comes, none_holds, event_same}
 use Rattle.message.proofs.PackOrders.{none_packs, short_comes}
 use Rattle.message.proofs.PackReads.{laid_places, read_back, decodes, long}
 use Rattle.message.proofs.Places.{of_maps, eight}
 use Rattle.message.proofs.ReadPacks.{laid_again, within_again, part_bytes}
-
-number_least : (f : MessageFault) → 1 ≤ (message_code f).number
-number_least Length = lit≤ tt
-number_least Map = lit≤ tt
-number_least Kind = lit≤ tt
-number_least MapOfKind = lit≤ tt
-number_least (Filler i) = lit≤ tt
-number_least (Field f) = omega (arith, field_late f)
-number_least (Value i) = lit≤ tt
-
-pub length_comes : (b : List ℕ) → (length b ≡ 16 → ⊥) → Comes (λ g. (message_code g).number) (Refused b) Length
-length_comes b h = record { holds = h; first = λ g l r. omega (arith, number_least g) }
 
 -- what `decode` says of its answer
 abbrev pub Decoding : List ℕ → Result KnownEvent MessageFault → Type 0
