@@ -19,10 +19,7 @@ fn from_waiting(entry: &Entry, at: u16) -> Option<Source>
     let Entry::Store(access) = entry else {
         return None;
     };
-    match access.byte_at(at) {
-        Some(byte) => Some(Source::Waiting { byte }),
-        None => None,
-    }
+    access.byte_at(at).map(|byte| Source::Waiting { byte })
 }
 
 // What a store cached in a run gives for it.
@@ -35,13 +32,10 @@ fn from_cached(departure: &Departure, run: u8, at: u16) -> Option<Source>
     let Entry::Store(access) = departure.entry else {
         return None;
     };
-    match access.byte_at(at) {
-        Some(byte) => Some(Source::Cached {
-            moment: departure.moment,
-            byte,
-        }),
-        None => None,
-    }
+    let moment = departure.moment;
+    access
+        .byte_at(at)
+        .map(|byte| Source::Cached { moment, byte })
 }
 
 // The youngest of a thread's waiting stores that covers the byte at an address.
