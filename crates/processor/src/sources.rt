@@ -44,15 +44,15 @@ pub(crate) fn last_waiting(entries: &[Entry], at: u16) -> Option<Source>
 {
     entries
         .iter()
-        .fold(None, |last, entry| from_waiting(entry, at).or(last))
+        .rev()
+        .find_map(|entry| from_waiting(entry, at))
 }
 
 // The last of the stores cached in a run that covers it, given all that left.
 pub(crate) fn last_cached(left: &[Departure], run: u8, at: u16) -> Option<Source>
     ensures { result ≡ last_of (from_cached run at) left.now }
 {
-    left.iter().fold(
-        None,
-        |last, departure| from_cached(departure, run, at).or(last),
-    )
+    left.iter()
+        .rev()
+        .find_map(|departure| from_cached(departure, run, at))
 }
