@@ -1,12 +1,12 @@
 -- No floor and no mark passes the count of its run.
-use Rattle.std.proofs.Common.{◌≡◌, ℕ, zero, suc, ◌+◌, ◌<◌, ◌≤◌, max, Bool, true, false, cond, ◌&&◌, eqb, List, [], ◌∷◌, ◌++◌, reverse, length, take, sym, refl, ap, ◌∙◌, subst, append-nil, add-one, arith}
+use Rattle.std.proofs.Common.{◌≡◌, ℕ, zero, suc, ◌+◌, ◌<◌, ◌≤◌, max, Bool, true, false, cond, ◌&&◌, eqb, List, [], ◌∷◌, ◌++◌, reverse, length, get_or, take, sym, refl, ap, ◌∙◌, subst, append-nil, add-one, arith}
 use Rattle.std.specs.List.{AllByRecursion}
 use Rattle.std.proofs.lemmas.List.Elements.{filter_more}
 use Rattle.std.proofs.ByRecursion.{All-append, All-weaker}
 use Rattle.std.proofs.lemmas.List.{reverse-append, length_push, take_all}
 use Rattle.std.proofs.lemmas.Bool.{eqb-true}
 use Rattle.processor.specs.Departures.{of_run, count, fences, writes, last_by, mark, set_after, set_mark, raised, floor_after, floor}
-use Rattle.processor.specs.History.{no_departure, left_at, Dated}
+use Rattle.processor.specs.History.{Dated}
 use Rattle.processor.specs.declared.departures.Departure.{Departure}
 use Rattle.processor.specs.declared.entries.Entry.{Entry}
 use Rattle.processor.specs.declared.entries.Entry.TheVariants.{Store, StrongFlush, WeakFlush, StoreFence}
@@ -64,6 +64,13 @@ early_more r D d true e is h =
     (All-weaker (λ (x : Departure). x.moment ≤ count r D) (λ (x : Departure). x.moment ≤ length (of_run r D ++ d ∷ [])) (λ x l. omega arith) (of_run r D) h)
     (omega arith, tt)
 
+-- what a look-up past the end gives
+pub no_departure : Departure
+no_departure = record { run = 0; moment = 0; thread = 0; entry = StoreFence }
+
+abbrev pub left_at : List Departure → ℕ → Departure
+left_at D i = get_or D i no_departure
+
 pub of_run_next : (r : ℕ) (D : List Departure) (i : ℕ) → i < length D → of_run r (take (suc i) D) ≡ of_run r (take i D) ++ cond (eqb (left_at D i).run r) (left_at D i ∷ []) []
 of_run_next r D i l = ap (λ j. of_run r (take j D)) (sym (add-one i)) ∙ filter_more (λ (x : Departure). eqb x.run r) D i no_departure l
 
@@ -71,7 +78,7 @@ pub early_front : (r : ℕ) (D : List Departure) → Dated D → (i : ℕ) → i
 early_front r D h zero l = tt
 early_front r D h (suc i) l =
     let d : Departure = left_at D i in
-    subst (λ (x : List Departure). Early (length x) x) (sym (of_run_next r D i (omega arith))) (early_more r (take i D) d (eqb d.run r) refl (h i (omega arith)) (early_front r D h i (omega arith)))
+    subst (λ (x : List Departure). Early (length x) x) (sym (of_run_next r D i (omega arith))) (early_more r (take i D) d (eqb d.run r) refl (h i no_departure (omega arith)) (early_front r D h i (omega arith)))
 
 early_run : (r : ℕ) (D : List Departure) → Dated D → Early (count r D) (of_run r D)
 early_run r D h = subst (λ (x : List Departure). Early (count r x) (of_run r x)) (take_all (length D) D (omega arith)) (early_front r D h (length D) (omega arith))

@@ -1,5 +1,3 @@
-mod Fitting
-mod Replaced
 mod Last
 mod Hearing
 mod Refusing

@@ -1,20 +1,29 @@
 -- What the processor keeps with every step.
 use Rattle.std.proofs.Common.{◌≡◌, ℕ, ◌<◌, ◌≤◌, List, [], ◌∷◌, ◌++◌, length, get_or, set, replicate, sym, refl, ap, ◌∙◌, subst, inl, inr, arith}
-use Rattle.std.proofs.lemmas.List.{get_or_past, get_or-replicate, length-set, length_push}
-use Rattle.std.proofs.lemmas.Bool.{cases_lt}
+use Rattle.std.proofs.lemmas.List.Elements.{All-push}
+use Rattle.std.proofs.lemmas.List.{get_or_past, get_or-replicate, get_or-set_same, get_or-set_other, set_past, length-set, length_push}
+use Rattle.std.proofs.lemmas.Bool.{cases_eq, cases_lt}
 use Rattle.processor.specs.Departures.{departure}
 use Rattle.processor.specs.Machine.{Machine, row, opened, with_row, entered, acted, drained_from, kept, cut}
 use Rattle.processor.specs.Memory.{InLine}
-use Rattle.processor.specs.Sound.{Loaded, Facts, no_load}
+use Rattle.processor.specs.Sound.{Facts}
 use Rattle.processor.specs.Waiting.{total}
 use Rattle.processor.specs.declared.entries.Entry.{Entry}
 use Rattle.processor.specs.declared.loads.Load.{Load}
 use Rattle.processor.proofs.Bounds.{total_few, bound_leaves, bound-entered, bound-kept, bound-cut}
-use Rattle.processor.proofs.Replaced.{at_set, all_push}
 
 -- ── rows ──
+pub at_set : {X : Type 0} (xs : List X) (r : ℕ) (v d : X) (P : X → Type 0) (k : ℕ) → P v → P (get_or xs k d) → P (get_or (set xs r v) k d)
+at_set xs r v d P k here other = elim (cases_eq k r) [
+  | inl e ↦ elim (cases_lt r (length xs)) [
+    | inl l ↦ subst P (sym (ap (λ j. get_or (set xs r v) j d) e ∙ get_or-set_same xs r v d l)) here
+    | inr l ↦ subst (λ ys. P (get_or ys k d)) (sym (set_past xs r v l)) other
+  ]
+  | inr e ↦ subst P (sym (get_or-set_other xs r k v d e)) other
+]
+
 rows_set : (W : List (List Entry)) (t : ℕ) (es : List Entry) → length es ≤ 8 → ((k : ℕ) → length (get_or W k []) ≤ 8) → (k : ℕ) → length (get_or (set W t es) k []) ≤ 8
-rows_set W t es l h k = at_set W t es [] (λ r. length r ≤ 8) k (λ _. l) (h k)
+rows_set W t es l h k = at_set W t es [] (λ r. length r ≤ 8) k l (h k)
 
 pub no_rows : (t : ℕ) → get_or {A = List Entry} (replicate 4 []) t [] ≡ []
 no_rows t = elim (cases_lt t 4) [
@@ -64,7 +73,7 @@ module _ (m : Machine) (f : Facts m) where
 
   pub kept-facts : (l : Load) → l.run ≤ m.run → InLine l.access → length m.loads < 256 → Facts (kept l m)
   kept-facts l p q room = record {
-    loaded = all_push m.loads l no_load (λ x. (x.run ≤ m.run) × InLine x.access) f.loaded (p, q) (omega arith, (omega arith, omega arith, omega arith));
+    loaded = All-push (λ (x : Load). (x.run ≤ m.run) × InLine x.access) m.loads l f.loaded (p, q);
     counted = omega (arith, f.counted, bound-kept l m);
     four = f.four;
     cuts = f.cuts;
@@ -76,7 +85,7 @@ module _ (m : Machine) (f : Facts m) where
   -- ── a cut ──
   pub cut-facts : m.run < 4 → Facts (cut m)
   cut-facts l = record {
-    loaded = λ i. (omega (arith, (f.loaded i).0), (f.loaded i).1);
+    loaded = λ i d l. let p = f.loaded i d l in (omega (arith, p.0), p.1);
     counted = omega (arith, bound-cut m few_wait, f.counted);
     four = refl;
     cuts = omega arith;
@@ -87,7 +96,4 @@ module _ (m : Machine) (f : Facts m) where
 
 -- ── the opened case ──
 pub facts-opened : Facts opened
-facts-opened = record { loaded = none_kept; counted = omega arith; four = refl; cuts = omega arith; moments = omega arith; rows = none_long; loads = omega arith }
-  where
-    none_kept : Loaded opened
-    none_kept i = subst (λ l. (l.run ≤ 0) × InLine l.access) (sym (get_or_past {X = Load} [] i no_load (omega arith))) (omega arith, (omega arith, omega arith, omega arith))
+facts-opened = record { loaded = λ i d l. absurd (omega arith); counted = omega arith; four = refl; cuts = omega arith; moments = omega arith; rows = none_long; loads = omega arith }

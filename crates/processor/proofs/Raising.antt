@@ -5,11 +5,11 @@ use Rattle.std.proofs.lemmas.List.{reverse-append, take_all}
 use Rattle.std.proofs.lemmas.Bool.{eqb-true, eq-eqb, ne_eqb, cases_eq, cases_lt, cond-true, cond-false}
 use Rattle.processor.specs.Departures.{of_run, count, mark, set_after, set_mark, raised, floor_after}
 use Rattle.processor.specs.Floors.{Fenced, Raises, Largest}
-use Rattle.processor.specs.History.{left_at, Dated}
+use Rattle.processor.specs.History.{Dated}
 use Rattle.processor.specs.declared.departures.Departure.{Departure}
 use Rattle.processor.specs.declared.entries.Entry.{Entry}
 use Rattle.processor.specs.declared.entries.Entry.TheVariants.{Store, StrongFlush, WeakFlush, StoreFence}
-use Rattle.processor.proofs.FloorLaws.{Early, floor_after_early, early_reverse, early_front, of_run_next}
+use Rattle.processor.proofs.FloorLaws.{no_departure, left_at, Early, floor_after_early, early_reverse, early_front, of_run_next}
 
 -- no moment passes a newer one
 abbrev pub Falls : List Departure → Type 0
@@ -206,7 +206,7 @@ falls_front : (r : ℕ) (D : List Departure) → Dated D → (i : ℕ) → i ≤
 falls_front r D h zero l = tt
 falls_front r D h (suc i) l =
     let d : Departure = left_at D i in
-    subst (λ (x : List Departure). Falls (reverse x)) (sym (of_run_next r D i (omega arith))) (falls_more r (take i D) d (eqb d.run r) refl (h i (omega arith)) (early_front r D h i (omega arith)) (falls_front r D h i (omega arith)))
+    subst (λ (x : List Departure). Falls (reverse x)) (sym (of_run_next r D i (omega arith))) (falls_more r (take i D) d (eqb d.run r) refl (h i no_departure (omega arith)) (early_front r D h i (omega arith)) (falls_front r D h i (omega arith)))
 
 pub largest-floor : (r n : ℕ) (D : List Departure) → Dated D → Largest n (reverse (of_run r D))
 largest-floor r n D h = largest n (reverse (of_run r D)) (subst (λ (x : List Departure). Falls (reverse (of_run r x))) (take_all (length D) D (omega arith)) (falls_front r D h (length D) (omega arith)))

@@ -1,14 +1,14 @@
 -- Every accepted message keeps the machine sound.
-use Rattle.std.proofs.Common.{◌≡◌, ℕ, zero, suc, ◌+◌, ◌<◌, ◌≤◌, true, List, [], ◌∷◌, ◌++◌, length, get_or, set, replicate, Some, None, Ok, Option, sym, refl, ap, subst, inl, inr, arith}
+use Rattle.std.proofs.Common.{◌≡◌, ℕ, zero, suc, ◌+◌, ◌<◌, ◌≤◌, List, [], ◌∷◌, ◌++◌, length, get_or, set, replicate, Some, None, Ok, Option, sym, refl, ap, subst, inl, inr, arith}
 use Rattle.std.specs.Option.{option_map}
-use Rattle.std.proofs.lemmas.List.{get_or_past}
+use Rattle.std.proofs.lemmas.List.Elements.{All-nil, All-head, All-tail, All-push}
 use Rattle.std.proofs.lemmas.Bool.{cases_lt}
 use Rattle.message.specs.Kinds.{kind_of}
 use Rattle.message.specs.Format.{field}
 use Rattle.message.specs.Reading.{Refused, event_of}
 use Rattle.message.specs.Refusals.{NoneHolds}
 use Rattle.message.specs.declared.kinds.Kind.{Kind}
-use Rattle.processor.specs.Entries.{Fits, fits}
+use Rattle.processor.specs.Entries.{Fits}
 use Rattle.processor.specs.Growth.{Grown}
 use Rattle.processor.specs.History.{Fitting, Recorded}
 use Rattle.processor.specs.Laws.{Laws}
@@ -21,6 +21,7 @@ use Rattle.processor.specs.Playing.{Accepts}
 use Rattle.processor.specs.Sound.{Facts, Sound}
 use Rattle.processor.specs.Sources.{load_of, from_waiting, from_cached}
 use Rattle.processor.specs.Waiting.{AllFit}
+use Rattle.processor.specs.declared.departures.Departure.{Departure}
 use Rattle.processor.specs.declared.entries.Entry.{Entry}
 use Rattle.processor.specs.declared.entries.Entry.TheVariants.{StoreFence}
 use Rattle.processor.specs.declared.faults.BufferFault.TheVariants.{Message, Full}
@@ -30,15 +31,13 @@ use Rattle.processor.specs.declared.operations.Operation.{Operation}
 use Rattle.processor.specs.declared.operations.Operation.TheVariants.{Enter, Drain, FullFence, PowerCut}
 use Rattle.processor.specs.declared.operations.Operation.TheVariants as asked
 use Rattle.processor.proofs.Bounds.{taken_drained_by}
-use Rattle.processor.proofs.Fitting.{fits_so, fit_push}
 use Rattle.processor.proofs.FloorLaws.{floor_within, mark_within}
 use Rattle.processor.proofs.Grows.{grown_trans, grown_same, grown_counted, others_stay}
-use Rattle.processor.proofs.HistoryLaws.{recorded_none, recorded_later, recorded_push, fitting_none, fitting_push}
+use Rattle.processor.proofs.HistoryLaws.{recorded_none, recorded_later, recorded_push}
 use Rattle.processor.proofs.Hearing.{in_its_range}
 use Rattle.processor.proofs.Last.{last_is}
-use Rattle.processor.proofs.MachineFacts.{no_rows, acted-facts, leave_facts, cut-facts, entered-facts, kept-facts, facts-opened}
+use Rattle.processor.proofs.MachineFacts.{at_set, no_rows, acted-facts, leave_facts, cut-facts, entered-facts, kept-facts, facts-opened}
 use Rattle.processor.proofs.Raising.{largest-floor}
-use Rattle.processor.proofs.Replaced.{at_set}
 use Rattle.processor.proofs.Steps.{accepted_step, bound_small, counted-facts}
 
 facts : (m : Machine) → Sound m → Facts m
@@ -76,16 +75,19 @@ sound_by m p = record {
 
 -- ── rows ──
 fitting_set : (W : List (List Entry)) (t : ℕ) (es : List Entry) → AllFit es → ((k : ℕ) → AllFit (get_or W k [])) → (k : ℕ) → AllFit (get_or (set W t es) k [])
-fitting_set W t es l h k = at_set W t es [] AllFit k (λ _. l) (h k)
+fitting_set W t es l h k = at_set W t es [] AllFit k l (h k)
 
 none_fit : (t : ℕ) → AllFit (get_or {A = List Entry} (replicate 4 []) t [])
-none_fit t = subst AllFit (sym (no_rows t)) (λ i. subst (λ (e : Entry). fits e ≡ true) (sym (get_or_past {X = Entry} [] i StoreFence (omega arith))) refl)
+none_fit t = subst AllFit (sym (no_rows t)) (All-nil Fits)
+
+pushed_fits : (D : List Departure) (d : Departure) → Fitting D → Fits d.entry → Fitting (D ++ d ∷ [])
+pushed_fits D d h fit = All-push (λ (x : Departure). Fits x.entry) D d h fit
 
 -- ── steps ──
 sound_acted : (t : ℕ) (e : Entry) (m : Machine) → Sound m → t < 4 → Fits e → length m.left < 512 → Sound (acted t e m)
 sound_acted t e m s four l room = sound_by (acted t e m) (record {
   recorded = recorded_push m.run m.left (recorded m s) t e four;
-  fitting = fitting_push m.left (departure m.run m.left t e) s.fitting l;
+  fitting = pushed_fits m.left (departure m.run m.left t e) s.fitting l;
   waiting = s.waiting;
   facts = acted-facts m (facts m s) t e room;
 })
@@ -94,8 +96,8 @@ sound_drained : (es : List Entry) (t : ℕ) (m : Machine) → row m t ≡ es →
 sound_drained [] t m w s four room = s
 sound_drained (e ∷ es) t m w s four room = sound_by (acted t e (with_row t es m)) (record {
   recorded = recorded_push m.run m.left (recorded m s) t e four;
-  fitting = fitting_push m.left (departure m.run m.left t e) s.fitting (fits_so e (subst (λ (r : List Entry). fits (get_or r 0 StoreFence) ≡ true) w (s.waiting t 0)));
-  waiting = fitting_set m.waits t es (λ i. subst (λ (r : List Entry). fits (get_or r (suc i) StoreFence) ≡ true) w (s.waiting t (suc i))) s.waiting;
+  fitting = pushed_fits m.left (departure m.run m.left t e) s.fitting (All-head Fits e es (subst AllFit w (s.waiting t)));
+  waiting = fitting_set m.waits t es (All-tail Fits e es (subst AllFit w (s.waiting t))) s.waiting;
   facts = leave_facts m (facts m s) t e es w room;
 })
 
@@ -112,7 +114,7 @@ sound_entered : (t : ℕ) (e : Entry) (m : Machine) → Sound m → Fits e → t
 sound_entered t e m s l four room = sound_by (entered t e m) (record {
   recorded = recorded m s;
   fitting = s.fitting;
-  waiting = fitting_set m.waits t (row m t ++ e ∷ []) (fit_push (row m t) e (s.waiting t) l) s.waiting;
+  waiting = fitting_set m.waits t (row m t ++ e ∷ []) (All-push Fits (row m t) e (s.waiting t) l) s.waiting;
   facts = entered-facts m (facts m s) t e four room;
 })
 
@@ -123,7 +125,7 @@ sound_cut : (m : Machine) → Sound m → m.run < 4 → Sound (cut m)
 sound_cut m s l = sound_by (cut m) (record { recorded = recorded_later m.run m.left (recorded m s); fitting = s.fitting; waiting = none_fit; facts = cut-facts m (facts m s) l })
 
 begins : Sound opened
-begins = sound_by opened (record { recorded = recorded_none 0; fitting = fitting_none; waiting = none_fit; facts = facts-opened })
+begins = sound_by opened (record { recorded = recorded_none 0; fitting = λ i d l. absurd (omega arith); waiting = none_fit; facts = facts-opened })
 
 -- ── operations ──
 not_refused : (n k : ℕ) → (n ≤ k → ⊥) → k < n

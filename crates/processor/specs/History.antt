@@ -1,11 +1,10 @@
 -- What has left the buffers, with the number of the present run; and what holds of it at all times.
-use Rattle.std.specs.Prelude.{◌≡◌, ℕ, ◌+◌, ◌<◌, ◌≤◌, true, List, [], ◌∷◌, ◌++◌, length, take, slice_index_or}
+use Rattle.std.specs.Prelude.{◌≡◌, ℕ, ◌+◌, ◌<◌, ◌≤◌, List, [], ◌∷◌, ◌++◌, length, take, slice_index_or}
+use Rattle.std.specs.List.{All, AllPairs}
 use Rattle.processor.specs.Departures.{count, departure}
-use Rattle.processor.specs.Entries.{fits}
-use Rattle.processor.specs.Memory.{no_access}
+use Rattle.processor.specs.Entries.{Fits}
 use Rattle.processor.specs.declared.departures.Departure.{Departure}
 use Rattle.processor.specs.declared.entries.Entry.{Entry}
-use Rattle.processor.specs.declared.entries.Entry.TheVariants.{Store}
 
 pub record Past : Type 0 where
   pub run : ℕ
@@ -23,31 +22,24 @@ abbrev pub closed : Past → Past
 closed p = past (p.run + 1) p.left
 
 -- ── facts ──
--- what a look-up past the end gives
-abbrev pub no_departure : Departure
-no_departure = record { run = 0; moment = 0; thread = 0; entry = Store no_access }
-
-abbrev pub left_at : List Departure → ℕ → Departure
-left_at D i = slice_index_or D i no_departure
-
 -- each left in a run up to now, from the buffer of one of the four threads
 abbrev pub Placed : ℕ → List Departure → Type 0
-Placed run D = (i : ℕ) → i < length D → ((left_at D i).run ≤ run) × ((left_at D i).thread < 4)
+Placed run D = All (λ d. (d.run ≤ run) × (d.thread < 4)) D
 
 abbrev pub OfThreads : List Departure → Type 0
-OfThreads D = (i : ℕ) → i < length D → (left_at D i).thread < 4
+OfThreads D = All (λ d. d.thread < 4) D
 
 -- each names bytes of one line, or a line that there is
 abbrev pub Fitting : List Departure → Type 0
-Fitting D = (i : ℕ) → fits (left_at D i).entry ≡ true
+Fitting D = All (λ d. Fits d.entry) D
 
 -- what left in a later run comes later
 abbrev pub InTurn : List Departure → Type 0
-InTurn D = (i j : ℕ) → (i < j) × (j < length D) → (left_at D i).run ≤ (left_at D j).run
+InTurn D = AllPairs (λ d later. d.run ≤ later.run) D
 
 -- moments of a run rise by one, from 1
 abbrev pub Dated : List Departure → Type 0
-Dated D = (i : ℕ) → i < length D → (left_at D i).moment ≡ count (left_at D i).run (take i D) + 1
+Dated D = (i : ℕ) (d : Departure) → i < length D → (slice_index_or D i d).moment ≡ count (slice_index_or D i d).run (take i D) + 1
 
 pub record Recorded (run : ℕ) (D : List Departure) : Type 0 where
   pub placed : Placed run D

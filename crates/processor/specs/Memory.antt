@@ -1,5 +1,5 @@
 -- The memory: 4,096 bytes in 64 lines of 64 bytes; and bytes of it that one store writes or one load reads.
-use Rattle.std.specs.Prelude.{ℕ, ◌+◌, ◌-◌, ◌/◌, ◌%◌, ◌<◌, ◌≤◌, Bool, cond, ◌&&◌, List, [], Some, None, Option, nat_le, nat_lt, slice_index}
+use Rattle.std.specs.Prelude.{ℕ, ◌+◌, ◌-◌, ◌/◌, ◌%◌, ◌<◌, ◌≤◌, Bool, cond, ◌&&◌, List, Some, None, Option, nat_le, nat_lt, slice_index}
 
 -- the line of an address
 abbrev pub line : ℕ → ℕ
@@ -18,16 +18,9 @@ span a w v = record { address = a; width = w; value = v }
 abbrev pub InLine : Span → Type 0
 InLine x = (x.address < 4096) × (x.address % 64 + x.width ≤ 64) × (x.width ≤ 8)
 
-abbrev pub in_line : Span → Bool
-in_line x = nat_lt x.address 4096 && (nat_le (x.address % 64 + x.width) 64 && nat_le x.width 8)
-
 -- whether the byte at an address is one of them, and its value if it is
 abbrev pub covers : Span → ℕ → Bool
 covers x b = nat_le x.address b && nat_lt b (x.address + x.width)
 
 abbrev pub byte_at : Span → ℕ → Option ℕ
 byte_at x b = cond (covers x b) (Some (slice_index x.value (b - x.address))) None
-
--- what a look-up past the end of a list gives
-abbrev pub no_access : Span
-no_access = span 0 0 []

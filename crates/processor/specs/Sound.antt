@@ -1,23 +1,16 @@
 -- What holds of a case at all times.
-use Rattle.std.specs.Prelude.{◌≡◌, ℕ, ◌+◌, ◌*◌, ◌≤◌, List, [], reverse, length, slice_index_or}
+use Rattle.std.specs.Prelude.{◌≡◌, ℕ, ◌+◌, ◌*◌, ◌≤◌, reverse, length}
+use Rattle.std.specs.List.{All}
 use Rattle.processor.specs.Departures.{of_run, count, flush_set, floor}
 use Rattle.processor.specs.Floors.{Largest}
 use Rattle.processor.specs.History.{Placed, Fitting, InTurn, Dated}
 use Rattle.processor.specs.Machine.{Machine, row}
-use Rattle.processor.specs.Memory.{InLine, no_access}
+use Rattle.processor.specs.Memory.{InLine}
 use Rattle.processor.specs.Waiting.{AllFit, total}
-use Rattle.processor.specs.declared.loads.Load.{Load}
-
--- what a look-up past the end of the kept loads gives
-abbrev pub no_load : Load
-no_load = record { run = 0; thread = 0; access = no_access; sources = [] }
-
-abbrev pub load_at : List Load → ℕ → Load
-load_at L i = slice_index_or L i no_load
 
 -- a kept load lies in one line, and was kept in a run up to now
 abbrev pub Loaded : Machine → Type 0
-Loaded m = (i : ℕ) → ((load_at m.loads i).run ≤ m.run) × InLine (load_at m.loads i).access
+Loaded m = All (λ l. (l.run ≤ m.run) × InLine l.access) m.loads
 
 -- Few messages are accepted: one that makes an entry wait adds 1 here, a drain takes a waiting entry and adds a moment, a full
 -- fence adds a moment at least, a load adds a load, and a cut loses at most 32 entries.

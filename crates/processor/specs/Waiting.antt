@@ -1,14 +1,14 @@
 -- What waits in the four threads' buffers: the rows of entries, by thread, each oldest first.
-use Rattle.std.specs.Prelude.{◌≡◌, ℕ, ◌+◌, ◌<◌, ◌≤◌, true, List, [], ◌∷◌, ◌++◌, length, slice_index_or, slice_set}
-use Rattle.processor.specs.Entries.{fits}
+use Rattle.std.specs.Prelude.{◌≡◌, ℕ, ◌+◌, ◌<◌, ◌≤◌, List, [], ◌∷◌, ◌++◌, length, slice_index_or, slice_set}
+use Rattle.std.specs.List.{All}
+use Rattle.processor.specs.Entries.{Fits}
 use Rattle.processor.specs.declared.entries.Entry.{Entry}
-use Rattle.processor.specs.declared.entries.Entry.TheVariants.{StoreFence}
 use Rattle.processor.specs.declared.faults.BufferFault.{BufferFault}
 use Rattle.processor.specs.declared.faults.BufferFault.TheVariants.{Message, Full, Empty}
 
 -- each of the entries fits the memory
 abbrev pub AllFit : List Entry → Type 0
-AllFit es = (i : ℕ) → fits (slice_index_or es i StoreFence) ≡ true
+AllFit es = All Fits es
 
 -- the row of a thread
 abbrev pub row_of : List (List Entry) → ℕ → List Entry

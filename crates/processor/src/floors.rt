@@ -98,10 +98,8 @@ pub(crate) fn floor_of(left: &[Departure], run: u8, line: u8) -> u16
     ensures { result ≡ floor run line left.now }
 {
     let mut flushes = LineFlushes::new();
-    for departure in left {
-        if departure.run == run {
-            flushes.note(departure, line);
-        }
+    for departure in left.iter().filter(|departure| departure.run == run) {
+        flushes.note(departure, line);
     }
     flushes.floor
 }

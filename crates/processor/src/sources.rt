@@ -19,10 +19,7 @@ fn from_waiting(entry: &Entry, at: u16) -> Option<Source>
     let Entry::Store(access) = entry else {
         return None;
     };
-    match access.byte_at(at) {
-        Some(byte) => Some(Source::Waiting { byte }),
-        None => None,
-    }
+    access.byte_at(at).map(|byte| Source::Waiting { byte })
 }
 
 // What a store cached in a run gives for it.
@@ -35,13 +32,10 @@ fn from_cached(departure: &Departure, run: u8, at: u16) -> Option<Source>
     let Entry::Store(access) = departure.entry else {
         return None;
     };
-    match access.byte_at(at) {
-        Some(byte) => Some(Source::Cached {
-            moment: departure.moment,
-            byte,
-        }),
-        None => None,
-    }
+    let moment = departure.moment;
+    access
+        .byte_at(at)
+        .map(|byte| Source::Cached { moment, byte })
 }
 
 // The youngest of a thread's waiting stores that covers the byte at an address.
@@ -50,15 +44,15 @@ pub(crate) fn last_waiting(entries: &[Entry], at: u16) -> Option<Source>
 {
     entries
         .iter()
-        .fold(None, |last, entry| from_waiting(entry, at).or(last))
+        .rev()
+        .find_map(|entry| from_waiting(entry, at))
 }
 
 // The last of the stores cached in a run that covers it, given all that left.
 pub(crate) fn last_cached(left: &[Departure], run: u8, at: u16) -> Option<Source>
     ensures { result ≡ last_of (from_cached run at) left.now }
 {
-    left.iter().fold(
-        None,
-        |last, departure| from_cached(departure, run, at).or(last),
-    )
+    left.iter()
+        .rev()
+        .find_map(|departure| from_cached(departure, run, at))
 }

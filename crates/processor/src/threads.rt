@@ -80,6 +80,11 @@ impl From<Thread> for u8 {
 }
 
 impl fmt::Display for NoThread {
+    ghost use Rattle.std.specs.Prelude.{◌++◌, Some, codes};
+    ghost use Rattle.std.specs.Fmt.{decimal};
+
+    ghost output = { λ e. Some (codes "no thread has number " ++ decimal e.0) };
+
     fn fmt<W: fmt::Write>(&self, f: &mut fmt::Formatter<W>) -> fmt::Result {
         write!(f, "no thread has number {}", self.0)
     }

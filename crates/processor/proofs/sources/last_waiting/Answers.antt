@@ -1,14 +1,12 @@
-use Rattle.std.proofs.Common.{None, Option, ◌∙◌, rules, tests}
-use Rattle.std.proofs.lemmas.Iterator.{YieldsList-from_slice}
-use Rattle.std.proofs.lemmas.Iterator.Consumers.{fold_from_yields_List}
-use Rattle.std.specs.Option.{option_or}
-use Rattle.processor.specs.Sources.{from_waiting}
-use Rattle.processor.specs.declared.sources.Source.{Source}
-use Rattle.processor.specs.declared.entries.Entry.{Entry}
-use Rattle.processor.proofs.Last.{last_by_fold}
+use Rattle.std.proofs.Common.{◌≡◌, ap, ◌∙◌, rules, tests}
+use Rattle.processor.specs.Sources.{last_of, from_waiting}
+use Rattle.processor.proofs.Last.{found_last}
 use Rattle.processor.proofs.sources.last_waiting.Goals as goal
 
 pub returns : goal.returns
 returns c =
-    fold_from_yields_List _ (λ (last : Option Source) (e : Entry). option_or (from_waiting c.args.at e) last) None c.fold.result c.fold.ensures.ran (YieldsList-from_slice c.args.entries.now cc) (λ a x b q k. search (rules, tests))
-    ∙ last_by_fold (from_waiting c.args.at) c.args.entries.now
+    let (p, from, said) = c.find_map.ensures.runs in
+    let (q, start, same) = c.rev.ensures.runs p p.seen from in
+    let all : q.from.rest.now ≡ c.args.entries.now = cc in
+    found_last p q same (λ y. y.now) q.from.rest.now (c.iter.ensures.runs_back q q.seen) _ _ (from_waiting c.args.at) (λ x o f k. search (rules, tests)) c.find_map.result said
+    ∙ ap (last_of (from_waiting c.args.at)) all
