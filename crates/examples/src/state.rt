@@ -1,9 +1,7 @@
 // The state of a case on one line.
 use message::{LINES, THREADS};
-use processor::{Departure, Entry, Load, Processor, Source};
+use processor::{Departure, Entry, Load, Processor, RUNS, Source};
 use std::fmt;
-
-const RUNS: u8 = 5;
 
 // A case, as its state is told. A part that has nothing is told as -.
 #[derive(Drop)]

@@ -8,8 +8,10 @@ mod ops;
 // How many moments a case takes over all its runs.
 pub(crate) const MOMENTS: usize = 512;
 
-// How many cuts a case takes.
-pub(crate) const CUTS: u8 = 4;
+// How many runs a case has at most, and how many cuts it takes.
+pub const RUNS: u8 = 5;
+
+pub(crate) const CUTS: u8 = RUNS - 1;
 
 // The present run, its count, and all that left, oldest first.
 #[derive(Drop)]

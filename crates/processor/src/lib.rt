@@ -19,6 +19,7 @@ pub use accesses::Access;
 pub use departures::Departure;
 pub use entries::Entry;
 pub use faults::{BufferFault, CaseFault};
+pub use history::RUNS;
 pub use loads::Load;
 pub use operations::Operation;
 pub use processor::{Playback, Processor};

@@ -5,8 +5,7 @@ use std::error::Error;
 use std::fmt;
 use std::marker::Model;
 
-// How many threads there are.
-pub(crate) const THREADS: usize = 4;
+pub(crate) const THREADS: usize = message::THREADS as usize;
 
 // The number of a thread, 0 to 3.
 #[derive(Clone, Copy, Debug, PartialEq, Eq, PartialOrd, Ord, Hash)]

@@ -1,9 +1,10 @@
 // The steps of the processor: each is a step of the machine, and they compose.
-ghost use Rattle.std.specs.Prelude.{◌≡◌, ◌+◌, ◌<◌, length};
+ghost use Rattle.std.specs.Prelude.{◌≡◌, ◌+◌, ◌<◌, ◌≤◌, length, MatchResult};
 ghost use Rattle.processor.specs.Laws.{Laws};
 ghost use Rattle.processor.specs.Machine.{opened, acted, drained, fenced, row};
 ghost use Rattle.processor.specs.Operations.{Performs};
 ghost use Rattle.processor.specs.Sources.{source, source_within, sources_of};
+ghost use Rattle.processor.specs.declared.faults.CaseFault.TheVariants as fault;
 ghost use Rattle.processor.specs.declared.operations.Operation.TheVariants as asked;
 
 use super::Processor;
@@ -107,6 +108,18 @@ impl Processor {
         Ok(())
     }
 
+    // Refuses more moments than are left.
+    fn check_moments(&self, needed: usize) -> Result<(), CaseFault>
+        ensures { MatchResult result (λ _. length self.now.left + needed ≤ 512) (λ f. (f ≡ fault.Moments self.now.run) × (512 < length self.now.left + needed)) }
+    {
+        if MOMENTS - self.history.taken() < needed {
+            return Err(CaseFault::Moments {
+                run: self.history.run(),
+            });
+        }
+        Ok(())
+    }
+
     // The oldest of a thread's waiting entries leaves.
     fn drain(&mut self, thread: Thread) -> Result<(), CaseFault>
         ensures { Performs (asked.Drain thread) self.old result self.new }
@@ -116,11 +129,7 @@ impl Processor {
                 thread: u8::from(thread),
             }));
         }
-        if self.history.taken() >= MOMENTS {
-            return Err(CaseFault::Moments {
-                run: self.history.run(),
-            });
-        }
+        self.check_moments(1)?;
         self.leave(thread);
         Ok(())
     }
@@ -130,11 +139,7 @@ impl Processor {
         ensures { Performs (asked.FullFence thread) self.old result self.new }
     {
         let leaving = self.buffers.row(thread).len();
-        if self.history.taken() + leaving + 1 > MOMENTS {
-            return Err(CaseFault::Moments {
-                run: self.history.run(),
-            });
-        }
+        self.check_moments(leaving + 1)?;
         self.fence(thread);
         Ok(())
     }
