@@ -2,6 +2,14 @@
 use Rattle.std.specs.Prelude.{◌≡◌, ℕ, ◌+◌, ◌<◌, ◌≤◌, ◌⊎◌, List, length, take, Some, None, Ok, Err, Option, Result}
 use Rattle.std.specs.Io.KnownBytes.{Consumes, IsAtEnd}
 use Rattle.arrayvec.specs.ArrayVec.{ArrayVec}
+use Rattle.blocks.specs.declared.blocks.Blocks.{Blocks}
+
+-- what the blocks are read from, and how many may come yet
+abbrev pub input_of : {R : Type 0} → Blocks R → R
+input_of b = b.input
+
+abbrev pub left_of : {R : Type 0} → Blocks R → ℕ
+left_of b = b.left
 
 -- n bytes came into a block from the front of what the input has, and fewer than it has room for only at the end
 abbrev pub Fills : Option (List ℕ) → Option (List ℕ) → ℕ → List ℕ → Type 0

@@ -1,7 +1,7 @@
 // Blocks as they come in.
 ghost use Rattle.std.specs.Prelude.{◌≡◌};
 ghost use Rattle.std.specs.Iterator.{at_most};
-ghost use Rattle.blocks.specs.Blocks.{Comes};
+ghost use Rattle.blocks.specs.Blocks.{input_of, left_of, Comes};
 
 use crate::fill::fill;
 use arrayvec::ArrayVec;
@@ -21,8 +21,8 @@ pub struct Blocks<R> {
 
 impl<R: Read> Blocks<R> {
     pub fn new(input: R) -> Blocks<R>
-        ensures input { result.input ≡ input }
-        ensures left { result.left ≡ 18446744073709551615 }
+        ensures input { input_of result ≡ input }
+        ensures left { left_of result ≡ 18446744073709551615 }
     {
         Blocks {
             input,
@@ -36,9 +36,9 @@ impl<R: Read + Drop> Iterator for Blocks<R> {
 
     ghost can_next = { λ _. Unit {0} };
 
-    ghost next_gives = { λ s r t. Comes s.left (R.remaining s.input) r t.left (R.remaining t.input) };
+    ghost next_gives = { λ s r t. Comes (left_of s) (R.remaining (input_of s)) r (left_of t) (R.remaining (input_of t)) };
 
-    ghost remaining = { λ s. at_most s.left };
+    ghost remaining = { λ s. at_most (left_of s) };
 
     fn next(&mut self) -> Option<io::Result<ArrayVec<u8, BLOCK>>> {
         self.left = self.left.checked_sub(1)?;

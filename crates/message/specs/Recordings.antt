@@ -2,7 +2,14 @@
 use Rattle.std.specs.Prelude.{◌≡◌, ℕ, ◌+◌, ◌*◌, ◌<◌, ◌≤◌, List, [], ◌∷◌, ◌++◌, length, take, drop, Some, None, Option}
 use Rattle.std.specs.Borrow.{Bor}
 use Rattle.message.specs.declared.recordings.Part.{Part}
-use Rattle.message.specs.declared.recordings.Recording.{Recording}
+
+-- a recording, and the ordinal of the part that comes next
+pub record Place : Type 0 where
+  pub recording : Bor (List ℕ)
+  pub next : ℕ
+
+abbrev pub place : Bor (List ℕ) → ℕ → Place
+place b n = record { recording = b; next = n }
 
 -- the bytes of the part at an ordinal: the sixteen from sixteen times the ordinal on, or what is left of them
 abbrev pub part_at : List ℕ → ℕ → List ℕ
@@ -16,14 +23,14 @@ pub record PartOf (recording : Bor (List ℕ)) (n : ℕ) (p : Bor (List ℕ)) : 
   pub bytes : p.now ≡ part_at recording.now n
 
 -- a call of `next`: nothing once no byte is left, and otherwise the part whose turn it is
-abbrev pub Steps : Recording → Option Part → Recording → Type 0
-Steps s None t = (t ≡ s) × (length s.bytes.now ≤ 16 * s.next)
-Steps s (Some p) t = (p.ordinal ≡ s.next) × PartOf s.bytes p.ordinal p.bytes × (t.bytes ≡ s.bytes) × (t.next ≡ s.next + 1)
+abbrev pub Steps : Place → Option Part → Place → Type 0
+Steps s None t = (t ≡ s) × (length s.recording.now ≤ 16 * s.next)
+Steps s (Some p) t = (p.ordinal ≡ s.next) × PartOf s.recording p.ordinal p.bytes × (t.recording ≡ s.recording) × (t.next ≡ s.next + 1)
 
 -- calls of `next` up to the first that gives nothing, with the parts that they gave
-abbrev pub Walk : Recording → List Part → Type 0
-Walk s [] = (t : Recording) × Steps s None t
-Walk s (p ∷ ps) = (t : Recording) × Steps s (Some p) t × Walk t ps
+abbrev pub Walk : Place → List Part → Type 0
+Walk s [] = (t : Place) × Steps s None t
+Walk s (p ∷ ps) = (t : Place) × Steps s (Some p) t × Walk t ps
 
 -- the bytes of parts end to end
 abbrev pub joined : List Part → List ℕ
@@ -36,5 +43,5 @@ CountUp n [] = Unit {0}
 CountUp n (p ∷ ps) = (p.ordinal ≡ n) × CountUp (n + 1) ps
 
 -- whoever calls `next` up to the end gets each byte of the recording once, in order, and ordinals from 0
-abbrev pub Complete : Bor (List ℕ) → Recording → Type 0
+abbrev pub Complete : Bor (List ℕ) → Place → Type 0
 Complete recording s = (ps : List Part) → Walk s ps → (joined ps ≡ recording.now) × CountUp 0 ps

@@ -1,9 +1,10 @@
 // The messages of a recording.
 ghost use Rattle.std.specs.Prelude.{◌≡◌, ◌-◌, ◌*◌, ◌≤◌, length, MatchOption};
-ghost use Rattle.message.specs.Recordings.{PartOf, Steps, Complete};
+ghost use Rattle.message.specs.Recordings.{place, PartOf, Steps, Complete};
 ghost use Rattle.std.specs.Iterator.{at_most};
 
 use crate::reading::MESSAGE_LEN;
+use std::marker::Model;
 
 // A message of a recording as a part of the recording itself, with its ordinal from 0. The last part may be shorter than
 // a message; reading it refuses its length.
@@ -20,6 +21,15 @@ pub struct Recording<'a> {
     next: usize,
 }
 
+// Clauses see the recording and the ordinal.
+impl<'a> Model for Recording<'a> {
+    ghost use Rattle.message.specs.Recordings.{Place, place};
+
+    ghost Value = { Place };
+
+    ghost view = { λ r. place r.bytes r.next };
+}
+
 // The part at an ordinal, unless the recording ends before it.
 fn part_at(recording: &[u8], ordinal: usize) -> Option<&[u8]>
     ensures { MatchOption result (length recording.now ≤ 16 * ordinal) (λ p. PartOf recording.entry ordinal p) }
@@ -32,19 +42,12 @@ fn part_at(recording: &[u8], ordinal: usize) -> Option<&[u8]>
     Some(&rest[..MESSAGE_LEN.min(rest.len())])
 }
 
-// The reader before its first step.
-fn start<'a>(bytes: &'a [u8]) -> Recording<'a>
-    ensures { (result.bytes ≡ bytes.entry) × (result.next ≡ 0) }
-{
-    Recording { bytes, next: 0 }
-}
-
 impl<'a> Recording<'a> {
     pub fn new(bytes: &'a [u8]) -> Recording<'a>
-        ensures starts { (result.bytes ≡ bytes.entry) × (result.next ≡ 0) }
+        ensures starts { result ≡ place bytes.entry 0 }
         ensures complete { Complete bytes.entry result }
     {
-        start(bytes)
+        Recording { bytes, next: 0 }
     }
 }
 
@@ -55,7 +58,7 @@ impl<'a> Iterator for Recording<'a> {
 
     ghost next_gives = { λ s r t. Steps s r t };
 
-    ghost remaining = { λ s. at_most (length s.bytes.now - s.next) };
+    ghost remaining = { λ s. at_most (length s.recording.now - s.next) };
 
     fn next(&mut self) -> Option<Part<'a>> {
         let ordinal = self.next;

@@ -10,7 +10,7 @@ loop-part-preserved c =
     let whole : List ℕ = c.args.recording.now in
     let n : ℕ = c.loop-part.accepted in
     let part : List ℕ = c.in-Some.part.bytes.now in
-    let same : c.loop-part.part-iterator.bytes.now ≡ whole = inv.2 in
+    let same : c.loop-part.part-iterator.recording.now ≡ whole = inv.2 in
     let place : c.in-Some.part.ordinal ≡ n = step.0 ∙ sym inv.3 in
     let is : part ≡ part_at whole n = step.1.bytes ∙ (ap (λ (l : List ℕ). part_at l c.in-Some.part.ordinal) same ∙ ap (λ (k : ℕ). part_at whole k) place) in (
       tt,
