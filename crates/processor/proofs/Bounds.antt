@@ -62,3 +62,7 @@ taken_drained (e ∷ es) t m = omega (arith, length_push m.left (departure m.run
 pub taken_drained_by : (n t : ℕ) (m : Machine) → length (drained_by n t m).left ≤ length m.left + n
 taken_drained_by zero t m = omega arith
 taken_drained_by (suc n) t m = omega (arith, taken_drained_by n t m, taken_drained (row (drained_by n t m) t) t (drained_by n t m))
+
+-- moments are left while those entries leave that waited at first
+pub room_left : (m n : Machine) (t k : ℕ) (es : List Entry) → es ≡ row m t → n ≡ drained_by k t m → k ≤ length es → length m.left + length (row m t) < 512 → length n.left < 512
+room_left m n t k es same is few room = omega (arith, ap (λ (l : List Entry). length l) same, ap (λ (x : Machine). length x.left) is, taken_drained_by k t m)

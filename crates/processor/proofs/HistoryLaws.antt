@@ -6,7 +6,7 @@ use Rattle.std.proofs.lemmas.List.Quantifiers.{all_pairs_push}
 use Rattle.std.proofs.lemmas.List.{length_push, get_or_push, get_or_append_left, take-append-le, take_at}
 use Rattle.std.proofs.lemmas.Bool.{cases_lt, eq-eqb, ne_eqb, cond-true, cond-false}
 use Rattle.processor.specs.Departures.{of_run, count, departure}
-use Rattle.processor.specs.History.{Past, left_next, closed, Dated, Recorded, Counts}
+use Rattle.processor.specs.History.{Past, closed, Dated, Recorded, Counts}
 use Rattle.processor.specs.declared.departures.Departure.{Departure}
 use Rattle.processor.specs.declared.entries.Entry.{Entry}
 
@@ -67,13 +67,6 @@ module _ (run : ℕ) (D : List Departure) (h : Recorded run D) (t : ℕ) (e : En
   }
 
 -- ── what the history keeps ──
-pub counts_next : (p : Past) (n t : ℕ) (e : Entry) → Counts p n → t < 4 → Counts (left_next t e p) (n + 1)
-counts_next p n t e h four = record {
-  within = h.within;
-  present = omega (arith, h.present, count-push p.run p.left (departure p.run p.left t e) refl);
-  recorded = recorded_push p.run p.left h.recorded t e four;
-}
-
 pub counts-closed : (p : Past) (n : ℕ) → Counts p n → p.run < 4 → Counts (closed p) 0
 counts-closed p n h l = record {
   within = omega arith;

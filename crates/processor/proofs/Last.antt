@@ -28,7 +28,7 @@ module _ {A B : Type 0} (f : A → Option B) where
 
 -- what a search from the back finds
 module _ {S T A B C F : Type 0} {steps : S → Option A → S → Type 0} {source : T → Option A → T → Type 0} (p : Run steps) (q : Run source) (same : IsIdenticalRun p q)
-    (v : A → B) (xs : List B) (back : ItemsMapToReversed q v xs) (g : Mut F (A × Unit {0}) (Option C)) (h : F) (f : B → Option C)
+    (v : A → B) (xs : List B) (back : ItemsMapToReversed q v xs) (f : B → Option C) {g : Mut F (A × Unit {0}) (Option C)} {h : F}
     (calls : (x : A) (o : Option C) (k : F) → Called g h (x, tt) o k → (k ≡ h) × (o ≡ f (v x))) where
   gives : (w : Option A) (y : B) (o : Option C) → option_map v w ≡ Some y → IfSome w (λ x. Called g h (x, tt) o h) → f y ≡ o
   gives None y o e c = cc

@@ -1,6 +1,5 @@
 mod Last
 mod Hearing
-mod Refusing
 mod HistoryLaws
 mod Passing
 mod Bounds

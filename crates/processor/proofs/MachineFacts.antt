@@ -1,10 +1,11 @@
 -- What the processor keeps with every step.
-use Rattle.std.proofs.Common.{◌≡◌, ℕ, ◌<◌, ◌≤◌, List, [], ◌∷◌, ◌++◌, length, get_or, set, replicate, sym, refl, ap, ◌∙◌, subst, inl, inr, arith}
+use Rattle.std.proofs.Common.{◌≡◌, ℕ, ◌<◌, ◌≤◌, List, [], ◌∷◌, ◌++◌, length, get_or, set, replicate, Ok, Err, Result, MatchResult, sym, refl, ap, ◌∙◌, subst, inl, inr, arith}
 use Rattle.std.proofs.lemmas.List.Elements.{All-push}
 use Rattle.std.proofs.lemmas.List.{get_or_past, get_or-replicate, get_or-set_same, get_or-set_other, set_past, length-set, length_push}
 use Rattle.std.proofs.lemmas.Bool.{cases_eq, cases_lt}
+use Rattle.tables.specs.declared.full.Full.{Full}
 use Rattle.processor.specs.Departures.{departure}
-use Rattle.processor.specs.Machine.{Machine, row, opened, with_row, entered, acted, drained_from, kept, cut}
+use Rattle.processor.specs.Machine.{Machine, machine_with, row, opened, with_row, entered, acted, kept, cut}
 use Rattle.processor.specs.Memory.{InLine}
 use Rattle.processor.specs.Sound.{Facts}
 use Rattle.processor.specs.Waiting.{total}
@@ -55,10 +56,6 @@ module _ (m : Machine) (f : Facts m) where
     loads = f.loads;
   }
 
-  pub drained-facts : (es : List Entry) (t : ℕ) → row m t ≡ es → length m.left < 512 → Facts (drained_from es t m)
-  drained-facts [] t w room = f
-  drained-facts (e ∷ es) t w room = leave_facts t e es w room
-
   -- ── an entry enters, a load is kept ──
   pub entered-facts : (t : ℕ) (e : Entry) → t < 4 → length (row m t) < 8 → Facts (entered t e m)
   entered-facts t e l room = record {
@@ -81,6 +78,12 @@ module _ (m : Machine) (f : Facts m) where
     rows = f.rows;
     loads = omega (arith, length_push m.loads l);
   }
+
+  -- kept, or with no room left
+  pub loads-facts : (L : List Load) (l : Load) (r : Result (Unit {0}) Full) → MatchResult r (λ _. (length m.loads < 256) × (L ≡ m.loads ++ l ∷ [])) (λ _. (256 ≤ length m.loads) × (L ≡ m.loads)) → l.run ≤ m.run → InLine l.access
+      → Facts (machine_with m.run m.left m.waits L m.accepted)
+  loads-facts L l (Ok u) h p q = rw h.1 (kept-facts l p q h.0)
+  loads-facts L l (Err e) h p q = rw h.1 f
 
   -- ── a cut ──
   pub cut-facts : m.run < 4 → Facts (cut m)

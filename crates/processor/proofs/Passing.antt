@@ -1,6 +1,6 @@
 -- A pass over what left in a run finds the floor of a line.
-use Rattle.std.proofs.Common.{◌≡◌, ℕ, ◌<◌, max, true, false, cond, ◌&&◌, eqb, List, [], ◌∷◌, ◌++◌, map, reverse, length, get_or, set, sym, refl, ap, ◌∙◌, subst, inl, inr, arith, Bor}
-use Rattle.std.proofs.lemmas.List.{get_or-set_same, get_or-set_other, get_or-replicate, length-set, reverse-append, map-append}
+use Rattle.std.proofs.Common.{◌≡◌, ℕ, ◌<◌, max, true, false, cond, ◌&&◌, eqb, List, [], ◌∷◌, length, get_or, set, sym, refl, ap, ◌∙◌, subst, inl, inr, arith}
+use Rattle.std.proofs.lemmas.List.{get_or-set_same, get_or-set_other, get_or-replicate, length-set}
 use Rattle.std.proofs.lemmas.Bool.{cases_eq, eq-eqb, ne_eqb}
 use Rattle.processor.specs.Departures.{fences, writes, last_by, mark, set_after, set_mark, raised, floor_after}
 use Rattle.processor.specs.FloorPass.{no_flushes, unflushed, noted, thread_at, passed}
@@ -54,8 +54,3 @@ tracks_more n older d s l h = let new : ThreadFlushes = noted n d.entry d.moment
     | inr e ↦ subst (Follows t n (d ∷ older)) (sym (get_or-set_other s.threads d.thread t new no_flushes e)) (other_more t n older d (thread_at s t) (λ z. e (sym z)) (h.threads t k))
   ];
 }
-
--- one more of those that the code has gone over
-pub tracks_next : (n : ℕ) (gone : List (Bor Departure)) (d : Bor Departure) (s : LineFlushes) → d.now.thread < 4 → Tracks n (reverse (map (λ (x : Bor Departure). x.now) gone)) s
-    → Tracks n (reverse (map (λ (x : Bor Departure). x.now) (gone ++ d ∷ []))) (passed n d.now s)
-tracks_next n gone d s four h = simp (map-append, reverse-append) (tracks_more n (reverse (map (λ (x : Bor Departure). x.now) gone)) d.now s four h)

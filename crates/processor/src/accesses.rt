@@ -13,6 +13,7 @@ pub struct Access {
     pub value: [u8; 8],
 }
 
+// Clauses see its bytes as a span of the memory.
 impl Model for Access {
     ghost use Rattle.processor.specs.Memory.{Span, span, InLine};
 

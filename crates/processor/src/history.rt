@@ -21,6 +21,7 @@ pub(crate) struct History {
     left: Table<Departure, MOMENTS>,
 }
 
+// Clauses see the run and what left; the count follows from them.
 impl Model for History {
     ghost use Rattle.processor.specs.History.{Past, past, Counts};
 

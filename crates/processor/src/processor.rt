@@ -22,6 +22,7 @@ pub struct Processor {
     accepted: u32,
 }
 
+// Clauses see the machine.
 impl Model for Processor {
     ghost use Rattle.processor.specs.Machine.{Machine, machine_with};
     ghost use Rattle.processor.specs.Sound.{Facts};

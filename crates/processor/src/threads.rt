@@ -13,6 +13,7 @@ pub struct Thread {
     number: u8,
 }
 
+// Clauses see the number.
 impl Model for Thread {
     ghost use Rattle.std.specs.Prelude.{ℕ, ◌<◌};
 

@@ -8,5 +8,5 @@ returns c =
     let (p, from, said) = c.find_map.ensures.runs in
     let (q, start, same) = c.rev.ensures.runs p p.seen from in
     let all : q.from.rest.now ≡ c.args.entries.now = cc in
-    found_last p q same (λ y. y.now) q.from.rest.now (c.iter.ensures.runs_back q q.seen) _ _ (from_waiting c.args.at) (λ x o f k. search (rules, tests)) c.find_map.result said
+    found_last p q same (λ y. y.now) q.from.rest.now (c.iter.ensures.runs_back q q.seen) (from_waiting c.args.at) (λ x o f k. search (rules, tests)) c.find_map.result said
     ∙ ap (last_of (from_waiting c.args.at)) all
