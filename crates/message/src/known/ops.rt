@@ -28,26 +28,32 @@ impl fmt::Display for KnownEvent {
             value,
         } = self.event;
         match self.kind {
-            Kind::Store => write!(
-                f,
-                "thread {thread} stores {value} ({value:#x}), width {width}, at address {address} (line {line})"
-            ),
-            Kind::Load => write!(
-                f,
-                "thread {thread} loads {value} ({value:#x}), width {width}, at address {address} (line {line})"
-            ),
-            Kind::StrongFlush => write!(
-                f,
-                "thread {thread} flushes address {address} (line {line}) strongly"
-            ),
-            Kind::WeakFlush => write!(
-                f,
-                "thread {thread} flushes address {address} (line {line}) weakly"
-            ),
+            Kind::Store | Kind::Load => {
+                let does = if self.kind == Kind::Load {
+                    "loads"
+                } else {
+                    "stores"
+                };
+                write!(
+                    f,
+                    "thread {thread} {does} {value} ({value:#x}), width {width}, at address {address} (line {line})"
+                )
+            }
+            Kind::StrongFlush | Kind::WeakFlush => {
+                let how = if self.kind == Kind::WeakFlush {
+                    "weakly"
+                } else {
+                    "strongly"
+                };
+                write!(
+                    f,
+                    "thread {thread} flushes address {address} (line {line}) {how}"
+                )
+            }
             Kind::StoreFence => write!(f, "thread {thread} fences its stores"),
             Kind::FullFence => write!(f, "thread {thread} fences in full"),
             Kind::Drain => write!(f, "the oldest waiting entry of thread {thread} leaves"),
-            Kind::PowerCut => write!(f, "the power is cut"),
+            Kind::PowerCut => f.write_str("the power is cut"),
         }
     }
 }
