@@ -1,6 +1,5 @@
 -- What a message that is read asks is in range.
 use Rattle.std.proofs.Common.{◌≡◌, ℕ, ◌+◌, ◌%◌, ◌<◌, ◌≤◌, List, Some, None, Ok, Option, sym, refl, ap, ◌∙◌, subst, inl, inr, arith}
-use Rattle.std.specs.Option.{option_map}
 use Rattle.std.proofs.lemmas.Bool.{cases_eq, cases_lt}
 use Rattle.message.specs.Fields.{IsWidth}
 use Rattle.message.specs.Format.{Stands, map_at, field}
@@ -15,7 +14,7 @@ use Rattle.message.specs.declared.kinds.Kind.TheVariants as kind
 use Rattle.message.specs.declared.known.KnownEvent.{KnownEvent}
 use Rattle.processor.specs.Memory.{InLine}
 use Rattle.processor.specs.Logging.{Heard}
-use Rattle.processor.specs.Operations.{access_of, operation, operation_for, InRange}
+use Rattle.processor.specs.Operations.{access_of, operation, InRange}
 
 -- ── a number that is not refused ──
 not_above : (n k : ℕ) → (k < n → ⊥) → n ≤ k
@@ -82,6 +81,3 @@ module _ (b : List ℕ) (k : KnownEvent) (r : Reading b (Ok k.event)) where
 
   pub heard : Heard b k
   heard = record { read = r; in_range = subst (λ (x : Event). InRange (operation k.kind x)) (sym r.1) (in_its_range b r.0 k.kind same_kind) }
-
-  pub asked : operation_for (event_of b) ≡ Some (operation k.kind k.event)
-  asked = ap (λ (x : Event). operation_for x) (sym r.1) ∙ ap (option_map (λ j. operation j k.event)) k.known

@@ -19,9 +19,6 @@ of_run_push r D d e = filter-append (λ x. eqb x.run r) D (d ∷ []) ∙ ap (λ 
 pub of_run_other : (r : ℕ) (D : List Departure) (d : Departure) → (d.run ≡ r → ⊥) → of_run r (D ++ d ∷ []) ≡ of_run r D ++ []
 of_run_other r D d n = filter-append (λ x. eqb x.run r) D (d ∷ []) ∙ ap (λ (l : List Departure). of_run r D ++ l) (cond-false (eqb d.run r) (d ∷ []) [] (ne_eqb d.run r n))
 
-pub count-push : (r : ℕ) (D : List Departure) (d : Departure) → d.run ≡ r → count r (D ++ d ∷ []) ≡ count r D + 1
-count-push r D d e = ap (λ (l : List Departure). length l) (of_run_push r D d e) ∙ length_push (of_run r D) d
-
 pub count_few : (r : ℕ) (D : List Departure) → count r D ≤ length D
 count_few r [] = omega arith
 count_few r (d ∷ D) =
