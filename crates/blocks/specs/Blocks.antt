@@ -15,9 +15,9 @@ left_of b = b.left
 abbrev pub Fills : Option (List ℕ) → Option (List ℕ) → ℕ → List ℕ → Type 0
 Fills before after n block = (n ≤ length block) × Consumes before after (take n block) × (n < length block → IsAtEnd after)
 
--- A block is 1,024 bytes from the front of what the input has, or what is left of it, and is the last then. None comes where
--- nothing was left, or no more blocks may come; how many may come goes down by one with each block that is not the last.
-abbrev pub Comes : {E : Type 0} → ℕ → Option (List ℕ) → Option (Result (ArrayVec ℕ) E) → ℕ → Option (List ℕ) → Type 0
-Comes more before None more' after = IsAtEnd before ⊎ (more ≡ 0)
-Comes more before (Some (Err e)) more' after = more' + 1 ≡ more
-Comes more before (Some (Ok m)) more' after = (0 < length m.items) × (length m.items ≤ 1024) × Consumes before after m.items × (length m.items < 1024 → IsAtEnd after) × (length m.items ≡ 1024 → more' + 1 ≡ more)
+-- A block is 1,024 bytes from the front of what the input has; or what is left of it, and then no more may come. None comes where
+-- nothing was left, or no more may come. After an error of the input, nothing is said of what it has left.
+abbrev pub Gives : {E : Type 0} → ℕ → Option (List ℕ) → Option (Result (ArrayVec ℕ) E) → ℕ → Option (List ℕ) → Type 0
+Gives more before None more' after = IsAtEnd before ⊎ (more ≡ 0)
+Gives more before (Some (Err e)) more' after = more' + 1 ≡ more
+Gives more before (Some (Ok m)) more' after = (0 < length m.items) × Consumes before after m.items × (((length m.items ≡ 1024) × (more' + 1 ≡ more)) ⊎ ((length m.items < 1024) × IsAtEnd after × (more' ≡ 0)))

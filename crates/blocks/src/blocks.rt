@@ -1,7 +1,7 @@
 // Blocks as they come in.
 ghost use Rattle.std.specs.Prelude.{◌≡◌};
 ghost use Rattle.std.specs.Iterator.{at_most};
-ghost use Rattle.blocks.specs.Blocks.{input_of, left_of, Comes};
+ghost use Rattle.blocks.specs.Blocks.{input_of, left_of, Gives};
 
 use crate::fill::fill;
 use arrayvec::ArrayVec;
@@ -36,7 +36,7 @@ impl<R: Read + Drop> Iterator for Blocks<R> {
 
     ghost can_next = { λ _. Unit {0} };
 
-    ghost next_gives = { λ s r t. Comes (left_of s) (R.remaining (input_of s)) r (left_of t) (R.remaining (input_of t)) };
+    ghost next_gives = { λ s r t. Gives (left_of s) (R.remaining (input_of s)) r (left_of t) (R.remaining (input_of t)) };
 
     ghost remaining = { λ s. at_most (left_of s) };
 

@@ -39,40 +39,17 @@ impl Before {
     }
 }
 
+// A case before a message and after it.
+#[derive(Clone, Copy)]
+pub(crate) struct Change<'a> {
+    pub before: &'a Before,
+    pub after: &'a Processor,
+}
+
 fn tell_departure(rt: &HostRuntime, departure: &Departure) -> io::Result<()> {
     let entry = departure.entry;
     let moment = departure.moment;
     println!(rt; "    {entry} leaves at moment {moment}")
-}
-
-fn tell_floors(rt: &HostRuntime, before: &Before, processor: &Processor) -> io::Result<()> {
-    let floors = floors_of(processor, before.run);
-    for (line, (floor, old)) in floors.iter().zip(before.floors.iter()).enumerate() {
-        if floor != old {
-            println!(rt; "    the floor of line {line} is now {floor}")?;
-        }
-    }
-    Ok(())
-}
-
-// What left, and the floors that it raised.
-fn tell_left(rt: &HostRuntime, before: &Before, processor: &Processor) -> io::Result<()> {
-    for departure in processor.left().iter().skip(before.left) {
-        tell_departure(rt, departure)?;
-    }
-    tell_floors(rt, before, processor)
-}
-
-// What left by a full fence, which is the last to leave.
-fn tell_fence(rt: &HostRuntime, before: &Before, processor: &Processor) -> io::Result<()> {
-    if let Some((fence, entries)) = processor.left().split_last() {
-        for departure in entries.iter().skip(before.left) {
-            tell_departure(rt, departure)?;
-        }
-        let moment = fence.moment;
-        println!(rt; "    the fence takes moment {moment}")?;
-    }
-    tell_floors(rt, before, processor)
 }
 
 fn tell_load(rt: &HostRuntime, number: usize, load: &Load) -> io::Result<()> {
@@ -89,35 +66,63 @@ fn tell_load(rt: &HostRuntime, number: usize, load: &Load) -> io::Result<()> {
     Ok(())
 }
 
-fn tell_kept(rt: &HostRuntime, processor: &Processor) -> io::Result<()> {
-    let Some((load, older)) = processor.loads().split_last() else {
-        return Ok(());
-    };
-    tell_load(rt, older.len(), load)
-}
-
-pub(crate) fn tell_changes(
-    rt: &HostRuntime,
-    before: &Before,
-    known: &KnownEvent,
-    processor: &Processor,
-) -> io::Result<()> {
-    match known.kind {
-        Kind::Store | Kind::StrongFlush | Kind::WeakFlush | Kind::StoreFence => {
-            let thread = known.event.thread;
-            let place = processor.waiting(thread).len();
-            println!(rt; "    waits as entry {place} of thread {thread}")
+impl<'a> Change<'a> {
+    fn tell_floors(self, rt: &HostRuntime) -> io::Result<()> {
+        let floors = floors_of(self.after, self.before.run);
+        for (line, (floor, old)) in floors.iter().zip(self.before.floors.iter()).enumerate() {
+            if floor != old {
+                println!(rt; "    the floor of line {line} is now {floor}")?;
+            }
         }
-        Kind::Drain => tell_left(rt, before, processor),
-        Kind::FullFence => tell_fence(rt, before, processor),
-        Kind::Load => tell_kept(rt, processor),
-        Kind::PowerCut => {
-            let run = before.run;
-            let count = processor.count(run);
-            let lost = before.waiting;
-            println!(rt;
-                "    run {run} is closed with count {count}, and {lost} waiting entries are lost"
-            )
+        Ok(())
+    }
+
+    // What left, and the floors that it raised.
+    fn tell_left(self, rt: &HostRuntime) -> io::Result<()> {
+        for departure in self.after.left().iter().skip(self.before.left) {
+            tell_departure(rt, departure)?;
+        }
+        self.tell_floors(rt)
+    }
+
+    // What left by a full fence, which is the last to leave.
+    fn tell_fence(self, rt: &HostRuntime) -> io::Result<()> {
+        if let Some((fence, entries)) = self.after.left().split_last() {
+            for departure in entries.iter().skip(self.before.left) {
+                tell_departure(rt, departure)?;
+            }
+            let moment = fence.moment;
+            println!(rt; "    the fence takes moment {moment}")?;
+        }
+        self.tell_floors(rt)
+    }
+
+    fn tell_kept(self, rt: &HostRuntime) -> io::Result<()> {
+        let Some((load, older)) = self.after.loads().split_last() else {
+            return Ok(());
+        };
+        tell_load(rt, older.len(), load)
+    }
+
+    // What the message of an event changed.
+    pub(crate) fn tell(self, rt: &HostRuntime, known: &KnownEvent) -> io::Result<()> {
+        match known.kind {
+            Kind::Store | Kind::StrongFlush | Kind::WeakFlush | Kind::StoreFence => {
+                let thread = known.event.thread;
+                let place = self.after.waiting(thread).len();
+                println!(rt; "    waits as entry {place} of thread {thread}")
+            }
+            Kind::Drain => self.tell_left(rt),
+            Kind::FullFence => self.tell_fence(rt),
+            Kind::Load => self.tell_kept(rt),
+            Kind::PowerCut => {
+                let run = self.before.run;
+                let count = self.after.count(run);
+                let lost = self.before.waiting;
+                println!(rt;
+                    "    run {run} is closed with count {count}, and {lost} waiting entries are lost"
+                )
+            }
         }
     }
 }

@@ -7,7 +7,7 @@ mod runs;
 
 use blocks::Blocks;
 use case_wording::list;
-use changes::{Before, tell_changes};
+use changes::{Before, Change};
 use message::Recording;
 use processor::Processor;
 use runs::tell_runs;
@@ -24,7 +24,13 @@ fn main(rt: HostRuntime) -> io::Result<()> {
             let line = list(part.bytes, &mut processor, &mut tally);
             println!(rt; "{line}")?;
             match line.said {
-                Ok(event) => tell_changes(&rt, &before, &event, &processor)?,
+                Ok(event) => {
+                    let change = Change {
+                        before: &before,
+                        after: &processor,
+                    };
+                    change.tell(&rt, &event)?;
+                }
                 Err(_) => break 'input,
             }
         }

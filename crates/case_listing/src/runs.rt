@@ -4,10 +4,9 @@ use processor::{Entry, Processor};
 use std::io;
 
 fn tell_stores(rt: &HostRuntime, processor: &Processor, run: u8) -> io::Result<()> {
-    for departure in processor.left() {
-        if departure.run == run
-            && let Entry::Store(_) = departure.entry
-        {
+    let left = processor.left().iter();
+    for departure in left.filter(|departure| departure.run == run) {
+        if let Entry::Store(_) = departure.entry {
             let moment = departure.moment;
             let store = departure.entry;
             println!(rt; "  moment {moment}: {store}")?;

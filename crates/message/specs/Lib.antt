@@ -1,6 +1,7 @@
 pub mod Kinds
 pub mod KnownEvents
 pub mod Faults
+pub mod Words
 pub mod Refusals
 pub mod Format
 pub mod Fields

@@ -1,6 +1,7 @@
 // Why a message or an event is refused.
-ghost use Rattle.std.specs.Prelude.{◌≡◌};
+ghost use Rattle.std.specs.Prelude.{◌≡◌, Some};
 ghost use Rattle.message.specs.Faults.{field_number, field_place, message_code, pack_code};
+ghost use Rattle.message.specs.Words.{code_words, field_words, message_words, pack_words};
 ghost use Rattle.message.specs.declared.faults.MessageFault.TheVariants as message;
 ghost use Rattle.message.specs.declared.faults.PackFault.TheVariants as pack;
 
@@ -143,22 +144,26 @@ impl From<PackFault> for FaultCode {
 }
 
 impl fmt::Display for FaultCode {
+    ghost output = { λ code. Some (code_words code) };
+
     fn fmt<W: fmt::Write>(&self, f: &mut fmt::Formatter<W>) -> fmt::Result {
-        let number = self.number;
-        let layer = self.layer;
-        let layer_number = u8::from(layer);
-        let place = self.place;
-        write!(f, "fault {number} of layer {layer_number} ({layer})")?;
-        match layer {
-            Layer::Message => write!(f, " at byte {place}"),
-            Layer::Buffers => write!(f, " at thread {place}"),
-            Layer::Case => write!(f, " at run {place}"),
-            Layer::Call => Ok(()),
-        }
+        let FaultCode {
+            number,
+            layer,
+            place,
+        } = self;
+        let layer_number = u8::from(*layer);
+        let place_name = layer.place_name();
+        write!(
+            f,
+            "fault {number} of layer {layer_number} ({layer}) at {place_name} {place}"
+        )
     }
 }
 
 impl fmt::Display for FieldFault {
+    ghost output = { λ fault. Some (field_words fault) };
+
     fn fmt<W: fmt::Write>(&self, f: &mut fmt::Formatter<W>) -> fmt::Result {
         f.write_str(match self {
             FieldFault::Thread => "its thread is above 3",
@@ -170,6 +175,8 @@ impl fmt::Display for FieldFault {
 }
 
 impl fmt::Display for MessageFault {
+    ghost output = { λ fault. Some (message_words fault) };
+
     fn fmt<W: fmt::Write>(&self, f: &mut fmt::Formatter<W>) -> fmt::Result {
         match self {
             MessageFault::Length => f.write_str("it is not 16 bytes long"),
@@ -188,6 +195,8 @@ impl fmt::Display for MessageFault {
 }
 
 impl fmt::Display for PackFault {
+    ghost output = { λ fault. Some (pack_words fault) };
+
     fn fmt<W: fmt::Write>(&self, f: &mut fmt::Formatter<W>) -> fmt::Result {
         match self {
             PackFault::Kind => f.write_str("its kind is unknown"),

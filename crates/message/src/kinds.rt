@@ -1,10 +1,15 @@
 // The eight kinds of message.
-ghost use Rattle.std.specs.Prelude.{◌≡◌};
+ghost use Rattle.std.specs.Prelude.{◌≡◌, ◌++◌, Some, codes};
+ghost use Rattle.std.specs.Fmt.{decimal};
 ghost use Rattle.message.specs.Format.{stands, fields_end};
 ghost use Rattle.message.specs.Kinds.{number_of, map_of, NumberGives};
+ghost use Rattle.message.specs.Words.{kind_words};
 
 use std::error::Error;
 use std::fmt;
+
+// How many kinds there are.
+pub const KINDS: usize = 8;
 
 #[derive(Clone, Copy, Debug, PartialEq, Eq, PartialOrd, Ord, Hash)]
 pub enum Kind {
@@ -52,7 +57,7 @@ impl From<Kind> for u8 {
 
 impl Kind {
     // The kinds in the order of their numbers.
-    pub const ALL: [Kind; 8] = [
+    pub const ALL: [Kind; KINDS] = [
         Kind::Store,
         Kind::StrongFlush,
         Kind::WeakFlush,
@@ -112,6 +117,8 @@ impl Kind {
 }
 
 impl fmt::Display for Kind {
+    ghost output = { λ kind. Some (kind_words kind) };
+
     fn fmt<W: fmt::Write>(&self, f: &mut fmt::Formatter<W>) -> fmt::Result {
         f.write_str(match self {
             Kind::Store => "store",
@@ -127,6 +134,8 @@ impl fmt::Display for Kind {
 }
 
 impl fmt::Display for UnknownKind {
+    ghost output = { λ unknown. Some (codes "no kind of message has number " ++ decimal unknown.0) };
+
     fn fmt<W: fmt::Write>(&self, f: &mut fmt::Formatter<W>) -> fmt::Result {
         write!(f, "no kind of message has number {}", self.0)
     }

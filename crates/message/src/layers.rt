@@ -1,6 +1,7 @@
 // Which layer finds a fault.
-ghost use Rattle.std.specs.Prelude.{◌≡◌};
+ghost use Rattle.std.specs.Prelude.{◌≡◌, Some};
 ghost use Rattle.message.specs.Faults.{layer_number};
+ghost use Rattle.message.specs.Words.{layer_words, place_name};
 
 use std::fmt;
 
@@ -22,7 +23,23 @@ impl From<Layer> for u8 {
     }
 }
 
+impl Layer {
+    // What the place of its faults is a number of.
+    pub(crate) fn place_name(self) -> &'static str
+        ensures { result.now ≡ place_name self }
+    {
+        match self {
+            Layer::Message => "byte",
+            Layer::Buffers => "thread",
+            Layer::Case => "run",
+            Layer::Call => "place",
+        }
+    }
+}
+
 impl fmt::Display for Layer {
+    ghost output = { λ layer. Some (layer_words layer) };
+
     fn fmt<W: fmt::Write>(&self, f: &mut fmt::Formatter<W>) -> fmt::Result {
         f.write_str(match self {
             Layer::Message => "message",

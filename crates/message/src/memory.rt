@@ -1,4 +1,5 @@
 // The arm's threads and its memory.
+ghost use Rattle.std.specs.Prelude.{◌≡◌, ◌/◌};
 
 // Threads are numbered from 0.
 pub const THREADS: u8 = 4;
@@ -7,3 +8,10 @@ pub const THREADS: u8 = 4;
 pub const MEMORY: u16 = 4096;
 
 pub const LINES: u8 = 64;
+
+// The cache line of an address.
+pub fn line_of(address: u16) -> u16
+    ensures { result ≡ address / 64 }
+{
+    address / 64
+}

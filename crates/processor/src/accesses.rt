@@ -30,7 +30,7 @@ impl Access {
     pub(crate) fn line(&self) -> u8
         ensures { result ≡ line self.now.address }
     {
-        (self.address / 64) as u8
+        message::line_of(self.address) as u8
     }
 
     // The byte that it has for an address, if it covers that.

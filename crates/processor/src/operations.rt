@@ -46,7 +46,7 @@ fn line_of(event: &Event) -> u8
     requires { event.now.address < 4096 }
     ensures { result ≡ line event.now.address }
 {
-    event.line() as u8
+    message::line_of(event.address) as u8
 }
 
 // An entry enters the buffer of the event's thread.

@@ -1,6 +1,6 @@
 // What is answered to a row.
-ghost use Rattle.std.specs.Prelude.{IfOk};
-ghost use Rattle.wire_rows.specs.Answers.{Answers, CountsUp};
+ghost use Rattle.std.specs.Prelude.{Some, IfOk};
+ghost use Rattle.wire_rows.specs.Answers.{Answers, CountsUp, numbers_told};
 
 use crate::hex::bytes_of;
 use crate::rows::Row;
@@ -55,6 +55,8 @@ impl<'a> Row<'a> {
 pub struct Code(pub FaultCode);
 
 impl fmt::Display for Code {
+    ghost output = { λ code. Some (numbers_told code.0) };
+
     fn fmt<W: fmt::Write>(&self, f: &mut fmt::Formatter<W>) -> fmt::Result {
         let FaultCode {
             number,
@@ -64,6 +66,26 @@ impl fmt::Display for Code {
         let layer = u8::from(layer);
         write!(f, "fault {number} {layer} {place}")
     }
+}
+
+// The bytes of a memory, in hexadecimal.
+fn tell_memory<W: fmt::Write>(f: &mut fmt::Formatter<W>, memory: &[u8]) -> fmt::Result {
+    for b in memory {
+        write!(f, "{b:02x}")?;
+    }
+    Ok(())
+}
+
+// The parts of a recording: the ordinal, the first byte and the length of each.
+fn tell_parts<W: fmt::Write>(f: &mut fmt::Formatter<W>, recording: &[u8]) -> fmt::Result {
+    f.write_str("parts")?;
+    for part in Recording::new(recording) {
+        let ordinal = part.ordinal;
+        let first = part.bytes.first().copied().unwrap_or(0);
+        let len = part.bytes.len();
+        write!(f, " {ordinal}:{first}:{len}")?;
+    }
+    Ok(())
 }
 
 impl fmt::Display for Answer {
@@ -85,27 +107,15 @@ impl fmt::Display for Answer {
             }
             Answer::Pack { packed, memory } => {
                 match packed {
-                    Ok(()) => write!(f, "packed ")?,
+                    Ok(()) => f.write_str("packed ")?,
                     Err(fault) => {
                         let code = Code(FaultCode::from(*fault));
                         write!(f, "{code} ")?;
                     }
                 }
-                for b in memory {
-                    write!(f, "{b:02x}")?;
-                }
-                Ok(())
+                tell_memory(f, memory.as_slice())
             }
-            Answer::Parts(recording) => {
-                write!(f, "parts")?;
-                for part in Recording::new(recording.as_slice()) {
-                    let ordinal = part.ordinal;
-                    let first = part.bytes.first().copied().unwrap_or(0);
-                    let len = part.bytes.len();
-                    write!(f, " {ordinal}:{first}:{len}")?;
-                }
-                Ok(())
-            }
+            Answer::Parts(recording) => tell_parts(f, recording.as_slice()),
         }
     }
 }

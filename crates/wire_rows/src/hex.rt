@@ -1,10 +1,14 @@
 // Bytes in hexadecimal.
-ghost use Rattle.std.specs.Prelude.{◌≡◌, ◌/◌, length, IfOk, vec_len};
+ghost use Rattle.std.specs.Prelude.{◌≡◌, ◌<◌, None, IfOk};
+ghost use Rattle.wire_rows.specs.Hex.{digit_of, pairs};
 
 use anyhow::anyhow;
 use std::alloc::Global;
 
-fn digit(b: u8) -> anyhow::Result<u8> {
+fn digit(b: u8) -> anyhow::Result<u8>
+    ensures value { IfOk result (λ d. d ≡ digit_of b) }
+    ensures within { IfOk result (λ d. d < 16) }
+{
     match b {
         b'0'..=b'9' => Ok(b - b'0'),
         b'a'..=b'f' => Ok(b - b'a' + 10),
@@ -14,7 +18,7 @@ fn digit(b: u8) -> anyhow::Result<u8> {
 
 // A byte for each two digits; an odd one at the end counts for nothing.
 pub fn bytes_of(heap: Global, hex: &str) -> anyhow::Result<Vec<u8>>
-    ensures { IfOk result (λ bytes. vec_len bytes ≡ length hex.now / 2) }
+    ensures { IfOk result (λ bytes. bytes.items ≡ pairs None hex.now) }
 {
     let mut bytes = Vec::new(heap);
     let mut high = None;
@@ -23,7 +27,7 @@ pub fn bytes_of(heap: Global, hex: &str) -> anyhow::Result<Vec<u8>>
         match high {
             None => high = Some(low),
             Some(h) => {
-                bytes.push((u16::from(h) * 16 % 256) as u8 | low)?;
+                bytes.push(h * 16 + low)?;
                 high = None;
             }
         }

@@ -1,4 +1,6 @@
 // Rows of a table.
+ghost use Rattle.wire_rows.specs.Rows.{Named};
+
 use anyhow::anyhow;
 use message::Event;
 use std::num::ParseIntError;
@@ -25,7 +27,7 @@ fn number_in<'a, T: FromStr<Err = ParseIntError>>(
 impl<'a> TryFrom<&'a str> for Row<'a> {
     type Error = anyhow::Error;
 
-    ghost try_from_gives = { λ _ _. Unit {0} };
+    ghost try_from_gives = { Named };
 
     fn try_from(line: &'a str) -> anyhow::Result<Row<'a>> {
         let mut words = line.split_whitespace();

@@ -3,10 +3,8 @@ ghost use Rattle.std.specs.Prelude.{◌≡◌, ◌+◌, ◌-◌, ◌<◌, min};
 ghost use Rattle.message.specs.Kinds.{number_of};
 ghost use Rattle.wording.specs.Counts.{Noted, count_of};
 
-use message::Kind;
+use message::{KINDS, Kind};
 use std::fmt;
-
-const KINDS: usize = 8;
 
 // How many messages in all, and of each kind in the order of their numbers. A count stays at the largest number once it
 // is there.

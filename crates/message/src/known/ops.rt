@@ -4,6 +4,7 @@ ghost use Rattle.message.specs.KnownEvents.{KnownGives};
 use super::KnownEvent;
 use crate::events::Event;
 use crate::kinds::{Kind, UnknownKind};
+use crate::memory::line_of;
 use std::fmt;
 
 impl TryFrom<Event> for KnownEvent {
@@ -19,7 +20,7 @@ impl TryFrom<Event> for KnownEvent {
 
 impl fmt::Display for KnownEvent {
     fn fmt<W: fmt::Write>(&self, f: &mut fmt::Formatter<W>) -> fmt::Result {
-        let line = self.event.line();
+        let line = line_of(self.event.address);
         let Event {
             kind: _,
             thread,

@@ -1,8 +1,9 @@
-use Rattle.std.proofs.Common.{◌≡◌, ◌+◌, ◌*◌, length, MatchOption}
+use Rattle.std.proofs.Common.{◌≡◌, ◌<◌, ◌++◌, None, MatchOption}
+use Rattle.wire_rows.specs.Hex.{pairs}
 use Rattle.wire_rows.proofs.hex.bytes_of.Given as goal
 
--- two digits for each byte, and the one that waits for another
+-- what is there, and what the digits that are left will add
 abbrev pub invariant-loop-b : goal.invariant-loop-b
 invariant-loop-b l =
-    MatchOption l.high (2 * length l.bytes.items ≡ length l.yielded) (λ _. 2 * length l.bytes.items + 1 ≡ length l.yielded)
-    × (length l.yielded + length l.b-iterator.rest.now ≡ length l.fn.hex)
+    MatchOption l.high (Unit {0}) (λ h. h < 16)
+    × (l.bytes.items ++ pairs l.high l.b-iterator.rest.now ≡ pairs None l.fn.hex)
