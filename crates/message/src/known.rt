@@ -8,7 +8,7 @@ use crate::kinds::Kind;
 mod ops;
 
 // An event whose number is that of a kind, with that kind.
-#[derive(Clone, Copy)]
+#[derive(Clone, Copy, Debug, PartialEq, Eq, Hash)]
 pub struct KnownEvent {
     pub kind: Kind,
     pub event: Event,

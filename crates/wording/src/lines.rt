@@ -7,7 +7,7 @@ use message::{FaultCode, Follower, KnownEvent, MessageFault, Reader};
 use std::fmt;
 
 // What a listing says of one message: its ordinal, and the event that it carries or why it is refused.
-#[derive(Clone, Copy)]
+#[derive(Clone, Copy, Debug, PartialEq, Eq, Hash)]
 pub struct Line<F> {
     pub ordinal: u64,
     pub said: Result<KnownEvent, F>,
