@@ -6,7 +6,7 @@ ghost use Rattle.processor.specs.History.{OfThreads};
 
 use crate::departures::Departure;
 use crate::entries::Entry;
-use crate::threads::THREADS;
+use crate::numbers::THREADS;
 
 // What decides a thread's flushes of one line, after a part of a run: the moments of its last fence and of its last cached
 // store or strong flush on the line, and the largest mark of the line in its flush set.
@@ -36,12 +36,12 @@ impl ThreadFlushes {
                 }
             }
             Entry::StrongFlush { line: flushed } => {
-                if *flushed == line {
+                if u8::from(*flushed) == line {
                     self.write = moment;
                 }
             }
             Entry::WeakFlush { line: flushed } => {
-                if *flushed == line {
+                if u8::from(*flushed) == line {
                     self.mark = self.mark.max(self.fence.max(self.write));
                 }
             }
@@ -59,7 +59,13 @@ fn raise(floor: u16, entry: &Entry, moment: u16, mark: u16, line: u8) -> u16
     ensures { result ≡ raised line entry.now moment mark floor }
 {
     match entry {
-        Entry::StrongFlush { line: flushed } => { if *flushed == line { moment } else { floor } }
+        Entry::StrongFlush { line: flushed } => {
+            if u8::from(*flushed) == line {
+                moment
+            } else {
+                floor
+            }
+        }
         Entry::StoreFence => floor.max(mark),
         Entry::Store(_) | Entry::WeakFlush { line: _ } => floor,
     }

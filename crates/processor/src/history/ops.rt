@@ -8,8 +8,8 @@ use super::History;
 use crate::departures::Departure;
 use crate::entries::Entry;
 use crate::floors::{count_of, floor_of};
+use crate::numbers::Thread;
 use crate::sources::{Source, last_cached};
-use crate::threads::Thread;
 use tables::Table;
 
 const NO_DEPARTURE: Departure = Departure {

@@ -9,7 +9,7 @@ use super::Processor;
 use crate::departures::Departure;
 use crate::entries::Entry;
 use crate::loads::Load;
-use crate::threads::Thread;
+use crate::numbers::Thread;
 
 impl Processor {
     // The number of the present run, and so of the cuts made.
