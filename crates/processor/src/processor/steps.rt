@@ -125,7 +125,7 @@ impl Processor {
         ensures { Performs (asked.Drain thread) self.old result self.new }
     {
         if self.buffers.row(thread).is_empty() {
-            return Err(CaseFault::Buffer(BufferFault::Empty {
+            return Err(CaseFault::from(BufferFault::Empty {
                 thread: u8::from(thread),
             }));
         }
