@@ -1,4 +1,4 @@
-pub mod Threads
+pub mod Numbers
 pub mod Memory
 pub mod Entries
 pub mod Faults

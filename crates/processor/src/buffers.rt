@@ -1,6 +1,6 @@
 // The four threads' store buffers: at most eight waiting entries each, oldest first.
 use crate::entries::Entry;
-use crate::threads::THREADS;
+use crate::numbers::THREADS;
 use tables::Table;
 
 mod ops;

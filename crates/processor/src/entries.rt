@@ -1,10 +1,11 @@
 // What waits in a store buffer.
 use crate::accesses::Access;
+use crate::numbers::CacheLine;
 
 #[derive(Clone, Copy)]
 pub enum Entry {
     Store(Access),
-    StrongFlush { line: u8 },
-    WeakFlush { line: u8 },
+    StrongFlush { line: CacheLine },
+    WeakFlush { line: CacheLine },
     StoreFence,
 }

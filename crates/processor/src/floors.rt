@@ -6,7 +6,7 @@ ghost use Rattle.processor.specs.History.{OfThreads};
 
 use crate::departures::Departure;
 use crate::entries::Entry;
-use crate::threads::THREADS;
+use crate::numbers::THREADS;
 
 // What decides a thread's flushes of one line, after a part of a run: the moments of its last fence and of its last cached
 // store or strong flush on the line, and the largest mark of the line in its flush set.
@@ -25,41 +25,46 @@ pub(crate) struct LineFlushes {
 }
 
 impl ThreadFlushes {
-    // An entry of the thread leaves at a moment.
-    fn note(&mut self, entry: &Entry, moment: u16, line: u8)
-        ensures { self.new ≡ noted line entry.now moment self.old }
+    // An entry of the thread leaves.
+    fn note(&mut self, departure: &Departure, line: u8)
+        ensures { self.new ≡ noted line departure.now.entry departure.now.moment self.old }
     {
-        match entry {
+        match departure.entry {
             Entry::Store(access) => {
                 if access.line() == line {
-                    self.write = moment;
+                    self.write = departure.moment;
                 }
             }
             Entry::StrongFlush { line: flushed } => {
-                if *flushed == line {
-                    self.write = moment;
+                if u8::from(flushed) == line {
+                    self.write = departure.moment;
                 }
             }
             Entry::WeakFlush { line: flushed } => {
-                if *flushed == line {
+                if u8::from(flushed) == line {
                     self.mark = self.mark.max(self.fence.max(self.write));
                 }
             }
             Entry::StoreFence => {
-                self.fence = moment;
+                self.fence = departure.moment;
                 self.mark = 0;
             }
         }
     }
 }
 
-// The floor of a line once an entry of a thread leaves at a moment, where `mark` is that of the line in the thread's flush
-// set.
-fn raise(floor: u16, entry: &Entry, moment: u16, mark: u16, line: u8) -> u16
-    ensures { result ≡ raised line entry.now moment mark floor }
+// The floor of a line once an entry leaves, where `mark` is that of the line in its thread's flush set.
+fn raise(floor: u16, departure: &Departure, mark: u16, line: u8) -> u16
+    ensures { result ≡ raised line departure.now.entry departure.now.moment mark floor }
 {
-    match entry {
-        Entry::StrongFlush { line: flushed } => { if *flushed == line { moment } else { floor } }
+    match departure.entry {
+        Entry::StrongFlush { line: flushed } => {
+            if u8::from(flushed) == line {
+                departure.moment
+            } else {
+                floor
+            }
+        }
         Entry::StoreFence => floor.max(mark),
         Entry::Store(_) | Entry::WeakFlush { line: _ } => floor,
     }
@@ -87,8 +92,8 @@ impl LineFlushes {
     {
         let thread = departure.thread as usize;
         let mark = self.threads[thread].mark;
-        self.floor = raise(self.floor, &departure.entry, departure.moment, mark, line);
-        self.threads[thread].note(&departure.entry, departure.moment, line);
+        self.floor = raise(self.floor, departure, mark, line);
+        self.threads[thread].note(departure, line);
     }
 }
 

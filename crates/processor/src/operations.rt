@@ -8,7 +8,7 @@ ghost use Rattle.processor.specs.declared.operations.Operation.TheVariants as as
 use crate::accesses::Access;
 use crate::entries::Entry;
 use crate::faults::BufferFault;
-use crate::threads::Thread;
+use crate::numbers::{CacheLine, Thread};
 use message::{Event, Kind, KnownEvent};
 
 #[derive(Clone, Copy)]
@@ -42,11 +42,11 @@ fn thread_of(event: &Event) -> Thread
 }
 
 // The line of the address that an event names.
-fn line_of(event: &Event) -> u8
+fn line_of(event: &Event) -> CacheLine
     requires { event.now.address < 4096 }
     ensures { result ≡ line event.now.address }
 {
-    message::line_of(event.address) as u8
+    CacheLine::new(message::line_of(event.address) as u8)
 }
 
 // An entry enters the buffer of the event's thread.

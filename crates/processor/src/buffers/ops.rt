@@ -5,7 +5,7 @@ ghost use Rattle.processor.specs.Waiting.{row_of, Pushed, PushRefused, Drained};
 use super::Buffers;
 use crate::entries::Entry;
 use crate::faults::BufferFault;
-use crate::threads::Thread;
+use crate::numbers::Thread;
 use std::array;
 use tables::Table;
 

@@ -1,15 +1,15 @@
 // What the history does: an entry leaves, a run is closed, and what follows from all that left.
 ghost use Rattle.std.specs.Prelude.{◌≡◌, ◌<◌, [], length};
 ghost use Rattle.processor.specs.Departures.{count, floor};
-ghost use Rattle.processor.specs.History.{past, left_next, closed};
+ghost use Rattle.processor.specs.History.{Recorded, past, left_next, closed};
 ghost use Rattle.processor.specs.Sources.{last_of, from_cached};
 
 use super::History;
 use crate::departures::Departure;
 use crate::entries::Entry;
 use crate::floors::{count_of, floor_of};
+use crate::numbers::Thread;
 use crate::sources::{Source, last_cached};
-use crate::threads::Thread;
 use tables::Table;
 
 const NO_DEPARTURE: Departure = Departure {
@@ -45,7 +45,8 @@ impl History {
 
     // All that left, oldest first.
     pub(crate) fn as_slice(&self) -> &[Departure]
-        ensures { result.now ≡ self.now.left }
+        ensures left { result.now ≡ self.now.left }
+        ensures past { Recorded self.now.run self.now.left }
     {
         self.left.as_slice()
     }

@@ -6,7 +6,7 @@ ghost use Rattle.processor.specs.Playing.{Plays};
 use super::Processor;
 use crate::faults::CaseFault;
 use crate::operations::{Operation, hear, operation_of};
-use message::{Follower, KnownEvent, Recording};
+use message::{Follower, KnownEvent, MESSAGE_LEN, Recording};
 
 // How a recording was played: how many of its messages were accepted, and the fault of the one after them, unless the
 // recording ended there.
@@ -40,20 +40,16 @@ impl Processor {
     pub fn play(&mut self, recording: &[u8]) -> Playback
         ensures { Plays self.old recording.now result self.new }
     {
-        let mut accepted = 0;
         for part in Recording::new(recording) {
-            match self.log(part.bytes) {
-                Ok(()) => accepted += 1,
-                Err(fault) => {
-                    return Playback {
-                        accepted,
-                        fault: Some(fault),
-                    };
-                }
+            if let Err(fault) = self.log(part.bytes) {
+                return Playback {
+                    accepted: part.ordinal,
+                    fault: Some(fault),
+                };
             }
         }
         Playback {
-            accepted,
+            accepted: recording.len().div_ceil(MESSAGE_LEN),
             fault: None,
         }
     }

@@ -14,9 +14,9 @@ use crate::entries::Entry;
 use crate::faults::{BufferFault, CaseFault};
 use crate::history::{CUTS, History, MOMENTS};
 use crate::loads::Load;
+use crate::numbers::Thread;
 use crate::operations::Operation;
 use crate::sources::{Source, last_waiting};
-use crate::threads::Thread;
 use std::array;
 use tables::Table;
 
@@ -125,7 +125,7 @@ impl Processor {
         ensures { Performs (asked.Drain thread) self.old result self.new }
     {
         if self.buffers.row(thread).is_empty() {
-            return Err(CaseFault::Buffer(BufferFault::Empty {
+            return Err(CaseFault::from(BufferFault::Empty {
                 thread: u8::from(thread),
             }));
         }

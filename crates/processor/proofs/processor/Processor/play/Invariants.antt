@@ -7,6 +7,5 @@ invariant-loop-part l =
     (goal.iterator-loop-part).can_next l.part-iterator
     × (goal.iterator-loop-part).is_finite l.part-iterator
     × (l.part-iterator.recording.now ≡ l.recording)
-    × (l.accepted ≡ l.part-iterator.next)
-    × (16 * l.accepted < length l.recording + 16)
-    × Accepts l.initial.self (parts l.recording l.accepted) l.self
+    × (16 * l.part-iterator.next < length l.recording + 16)
+    × Accepts l.initial.self (parts l.recording l.part-iterator.next) l.self
