@@ -2,6 +2,7 @@ pub mod Numbers
 pub mod Memory
 pub mod Entries
 pub mod Faults
+pub mod Words
 pub mod Waiting
 pub mod Departures
 pub mod Floors

@@ -1,6 +1,7 @@
 // Why a message is not followed: each fault holds that of the layer below whole.
-ghost use Rattle.std.specs.Prelude.{◌≡◌};
+ghost use Rattle.std.specs.Prelude.{◌≡◌, Some};
 ghost use Rattle.processor.specs.Faults.{buffer_code, case_code};
+ghost use Rattle.processor.specs.Words.{buffer_words, case_words};
 ghost use Rattle.processor.specs.declared.faults.BufferFault.TheVariants as buffer;
 ghost use Rattle.processor.specs.declared.faults.CaseFault.TheVariants as case;
 
@@ -81,6 +82,8 @@ impl From<CaseFault> for FaultCode {
 }
 
 impl fmt::Display for BufferFault {
+    ghost output = { λ fault. Some (buffer_words fault) };
+
     fn fmt<W: fmt::Write>(&self, f: &mut fmt::Formatter<W>) -> fmt::Result {
         match self {
             BufferFault::Message(fault) => write!(f, "{fault}"),
@@ -93,6 +96,8 @@ impl fmt::Display for BufferFault {
 }
 
 impl fmt::Display for CaseFault {
+    ghost output = { λ fault. Some (case_words fault) };
+
     fn fmt<W: fmt::Write>(&self, f: &mut fmt::Formatter<W>) -> fmt::Result {
         match self {
             CaseFault::Buffer(fault) => write!(f, "{fault}"),

@@ -1,4 +1,7 @@
 // Waiting entries and sources of bytes in words.
+ghost use Rattle.std.specs.Prelude.{Some};
+ghost use Rattle.processor.specs.Words.{source_words};
+
 use crate::entries::Entry;
 use crate::sources::Source;
 use std::fmt;
@@ -24,6 +27,8 @@ impl fmt::Display for Entry {
 }
 
 impl fmt::Display for Source {
+    ghost output = { λ source. Some (source_words source) };
+
     fn fmt<W: fmt::Write>(&self, f: &mut fmt::Formatter<W>) -> fmt::Result {
         match self {
             Source::Waiting { byte } => write!(f, "{byte} from a waiting store"),

@@ -1,0 +1,26 @@
+-- The words in which faults and sources are told.
+use Rattle.std.specs.Prelude.{ℕ, ◌++◌, List, codes}
+use Rattle.std.specs.Fmt.{decimal}
+use Rattle.message.specs.Words.{message_words}
+use Rattle.processor.specs.declared.faults.BufferFault.{BufferFault}
+use Rattle.processor.specs.declared.faults.BufferFault.TheVariants.{Message, Full, Empty}
+use Rattle.processor.specs.declared.faults.CaseFault.{CaseFault}
+use Rattle.processor.specs.declared.faults.CaseFault.TheVariants.{Buffer, Moments, Loads, Cuts}
+use Rattle.processor.specs.declared.sources.Source.{Source}
+use Rattle.processor.specs.declared.sources.Source.TheVariants.{Waiting, Cached}
+
+abbrev pub buffer_words : BufferFault → List ℕ
+buffer_words (Message f) = message_words f
+buffer_words (Full t) = codes "8 entries wait in its thread's buffer"
+buffer_words (Empty t) = codes "no entry waits in its thread's buffer"
+
+abbrev pub case_words : CaseFault → List ℕ
+case_words (Buffer f) = buffer_words f
+case_words (Moments r) = codes "the moments do not suffice"
+case_words (Loads r) = codes "256 loads are kept"
+case_words (Cuts r) = codes "four cuts were made"
+
+-- the byte, and the store that gives it
+abbrev pub source_words : Source → List ℕ
+source_words (Waiting b) = decimal b ++ codes " from a waiting store"
+source_words (Cached k b) = decimal b ++ (codes " from the store at moment " ++ decimal k)
