@@ -45,10 +45,11 @@ from_cached r b d = cond (d.run == r) (from_left b d.moment d.entry) None
 abbrev pub source : Machine → ℕ → ℕ → Option Source
 source m t b = option_or (last_of (from_waiting b) (row m t)) (last_of (from_cached m.run b) m.left)
 
--- the sources of the bytes of an access, from its address on, in eight places
+-- the source of the byte of an access at a place, counted from its address; none beyond its width
 abbrev pub source_within : Machine → ℕ → Access → ℕ → Option Source
 source_within m t x i = cond (nat_lt i x.width) (source m t (x.address + i)) None
 
+-- the sources of the bytes of an access, from its address on, in eight places
 abbrev pub sources_of : Machine → ℕ → Access → List (Option Source)
 sources_of m t x = map (source_within m t x) (range_with_len 0 8)
 

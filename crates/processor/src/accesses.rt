@@ -6,7 +6,7 @@ use std::marker::Model;
 
 // The `width` bytes from `address` on, and their values; value bytes beyond the width are 0. All of them lie in one cache
 // line.
-#[derive(Clone, Copy)]
+#[derive(Clone, Copy, Debug, PartialEq, Eq, Hash)]
 pub struct Access {
     pub address: u16,
     pub width: u8,

@@ -2,7 +2,7 @@
 use crate::accesses::Access;
 use crate::numbers::CacheLine;
 
-#[derive(Clone, Copy)]
+#[derive(Clone, Copy, Debug, PartialEq, Eq, Hash)]
 pub enum Entry {
     Store(Access),
     StrongFlush { line: CacheLine },

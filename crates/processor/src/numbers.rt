@@ -14,10 +14,10 @@ pub struct Below<const N: u8> {
 }
 
 // The number of a thread, 0 to 3.
-pub type Thread = Below<4>;
+pub type Thread = Below<{ message::THREADS }>;
 
 // The number of a cache line, 0 to 63.
-pub type CacheLine = Below<64>;
+pub type CacheLine = Below<{ message::LINES }>;
 
 // Clauses see the number.
 impl<const N: u8> Model for Below<N> {

@@ -11,7 +11,7 @@ use crate::faults::BufferFault;
 use crate::numbers::{CacheLine, Thread};
 use message::{Event, Kind, KnownEvent};
 
-#[derive(Clone, Copy)]
+#[derive(Clone, Copy, Debug, PartialEq, Eq, Hash)]
 pub enum Operation {
     Enter { thread: Thread, entry: Entry },
     Drain { thread: Thread },

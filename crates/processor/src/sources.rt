@@ -6,7 +6,7 @@ use crate::departures::Departure;
 use crate::entries::Entry;
 
 // A store that waited in the loading thread's buffer, or one that was cached at a moment of the run.
-#[derive(Clone, Copy)]
+#[derive(Clone, Copy, Debug, PartialEq, Eq, Hash)]
 pub enum Source {
     Waiting { byte: u8 },
     Cached { moment: u16, byte: u8 },

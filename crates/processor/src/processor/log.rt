@@ -10,7 +10,7 @@ use message::{Follower, KnownEvent, MESSAGE_LEN, Recording};
 
 // How a recording was played: how many of its messages were accepted, and the fault of the one after them, unless the
 // recording ended there.
-#[derive(Clone, Copy)]
+#[derive(Clone, Copy, Debug, PartialEq, Eq, Hash)]
 pub struct Playback {
     pub accepted: usize,
     pub fault: Option<CaseFault>,
