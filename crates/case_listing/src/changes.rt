@@ -1,6 +1,6 @@
 // What a message changed in the case.
 use message::{Kind, KnownEvent, LINES, THREADS};
-use processor::{Departure, Load, Processor};
+use processor::{Departure, Load, Processor, SourceName};
 use std::{array, io};
 
 // The floors of a run, by line.
@@ -58,10 +58,8 @@ fn tell_load(rt: &HostRuntime, number: usize, load: &Load) -> io::Result<()> {
     let width = load.access.width as usize;
     for (i, source) in load.sources.iter().take(width).enumerate() {
         let address = (load.access.address as usize).saturating_add(i);
-        match source {
-            Some(source) => println!(rt; "    byte {address}: {source}")?,
-            None => println!(rt; "    byte {address}: no store of this run")?,
-        }
+        let name = SourceName(*source);
+        println!(rt; "    byte {address}: {name}")?;
     }
     Ok(())
 }

@@ -2,5 +2,9 @@
 #![tactic(auto)]
 
 mod lines;
+#[cfg(test)]
+mod tests;
 
 pub use lines::list;
+pub use processor::{EntryName, SourceName};
+pub use wording::Line;

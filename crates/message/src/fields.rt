@@ -8,8 +8,8 @@ use crate::memory::{MEMORY, THREADS};
 
 impl KnownEvent {
     // Refuses a thread, an address or a width that no message holds, in this order; fields that the kind lacks pass.
-    pub(crate) fn check_fields(&self) -> Result<(), FieldFault>
-        ensures { MatchResult result (λ _. FieldsFit self.now.kind self.now.event) (λ f. FieldsFail self.now.kind self.now.event f) }
+    pub(crate) fn check_fields(self) -> Result<(), FieldFault>
+        ensures { MatchResult result (λ _. FieldsFit self.kind self.event) (λ f. FieldsFail self.kind self.event f) }
     {
         let KnownEvent { kind, event } = self;
         if kind.has_thread() && event.thread >= THREADS {

@@ -12,6 +12,7 @@ mod memory;
 mod packing;
 mod reading;
 mod recordings;
+mod told;
 
 pub use events::Event;
 pub use faults::{FaultCode, FieldFault, MessageFault, PackFault};
@@ -23,3 +24,4 @@ pub use memory::{LINES, MEMORY, THREADS, line_of};
 pub use packing::pack;
 pub use reading::{MESSAGE_LEN, read};
 pub use recordings::{Part, Recording};
+pub use told::Told;

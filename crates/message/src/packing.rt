@@ -28,8 +28,8 @@ fn fits(value: u64, width: u8) -> bool
 
 impl KnownEvent {
     // The event with 0 in each field that its kind lacks.
-    fn carried(&self) -> Event
-        ensures { result ≡ within (map_of self.now.kind) self.now.event }
+    fn carried(self) -> Event
+        ensures { result ≡ within (map_of self.kind) self.event }
     {
         let KnownEvent { kind, event } = self;
         Event {
@@ -42,8 +42,8 @@ impl KnownEvent {
     }
 
     // Its message: each field at its offset, and 0 in those that the kind lacks.
-    fn bytes(&self) -> [u8; 16]
-        ensures { result ≡ bytes_at (map_of self.now.kind) (within (map_of self.now.kind) self.now.event) }
+    fn bytes(self) -> [u8; 16]
+        ensures { result ≡ bytes_at (map_of self.kind) (within (map_of self.kind) self.event) }
     {
         let event = self.carried();
         let a = event.address.to_le_bytes();

@@ -1,8 +1,9 @@
 -- A pass over what left in a run finds the floor of a line.
-use Rattle.std.proofs.Common.{◌≡◌, ℕ, ◌<◌, max, true, false, cond, ◌&&◌, eqb, List, [], ◌∷◌, length, get_or, set, sym, refl, ap, ◌∙◌, subst, inl, inr, arith}
-use Rattle.std.proofs.lemmas.List.{get_or-set_same, get_or-set_other, get_or-replicate, length-set}
+use Rattle.std.proofs.Common.{◌≡◌, ℕ, ◌+◌, ◌<◌, max, Bool, true, false, cond, ◌&&◌, eqb, List, [], ◌∷◌, ◌++◌, reverse, length, get_or, take, set, sym, refl, ap, ◌∙◌, subst, inl, inr, append-nil, arith}
+use Rattle.std.proofs.lemmas.List.Elements.{filter_more}
+use Rattle.std.proofs.lemmas.List.{get_or-set_same, get_or-set_other, get_or-replicate, length-set, reverse-append}
 use Rattle.std.proofs.lemmas.Bool.{cases_eq, eq-eqb, ne_eqb}
-use Rattle.processor.specs.Departures.{fences, writes, last_by, mark, set_after, set_mark, raised, floor_after}
+use Rattle.processor.specs.Departures.{of_run, fences, writes, last_by, mark, set_after, set_mark, raised, floor_after}
 use Rattle.processor.specs.FloorPass.{no_flushes, unflushed, noted, thread_at, passed}
 use Rattle.processor.specs.declared.departures.Departure.{Departure}
 use Rattle.processor.specs.declared.floors.LineFlushes.{LineFlushes}
@@ -54,3 +55,19 @@ tracks_more n older d s l h = let new : ThreadFlushes = noted n d.entry d.moment
     | inr e ↦ subst (Follows t n (d ∷ older)) (sym (get_or-set_other s.threads d.thread t new no_flushes e)) (other_more t n older d (thread_at s t) (λ z. e (sym z)) (h.threads t k))
   ];
 }
+
+-- ── the steps of the loop: d stands at place i of what left ──
+module _ (r n : ℕ) (D : List Departure) (i : ℕ) (d : Departure) (l : i < length D) (is : d ≡ get_or D i d) (s : LineFlushes) (inv : Tracks n (reverse (of_run r (take i D))) s) where
+  more : (b : Bool) → eqb d.run r ≡ b → of_run r (take (i + 1) D) ≡ of_run r (take i D) ++ cond b (d ∷ []) []
+  more b e =
+      filter_more (λ x. eqb x.run r) D i d l
+      ∙ ap (λ (x : Departure). of_run r (take i D) ++ cond (eqb x.run r) (x ∷ []) []) (sym is)
+      ∙ ap (λ c. of_run r (take i D) ++ cond c (d ∷ []) []) e
+
+  pub same_run : d.run ≡ r → d.thread < 4 → (s' : LineFlushes) → s' ≡ passed n d s → Tracks n (reverse (of_run r (take (i + 1) D))) s'
+  same_run e four s' made =
+      let back : reverse (of_run r (take (i + 1) D)) ≡ d ∷ reverse (of_run r (take i D)) = ap (λ (x : List Departure). reverse x) (more true (eq-eqb d.run r e)) ∙ reverse-append (of_run r (take i D)) (d ∷ []) in
+      subst (Tracks n (reverse (of_run r (take (i + 1) D)))) (sym made) (subst (λ (x : List Departure). Tracks n x (passed n d s)) (sym back) (tracks_more n (reverse (of_run r (take i D))) d s four inv))
+
+  pub other_run : (d.run ≡ r → ⊥) → Tracks n (reverse (of_run r (take (i + 1) D))) s
+  other_run e = subst (λ (x : List Departure). Tracks n (reverse x) s) (sym (more false (ne_eqb d.run r e) ∙ append-nil (of_run r (take i D)))) inv

@@ -37,8 +37,9 @@ impl Access {
     pub(crate) fn byte_at(&self, at: u16) -> Option<u8>
         ensures { result ≡ byte_at self.now at }
     {
-        if self.address <= at && at < self.address + self.width as u16 {
-            Some(self.value[(at - self.address) as usize])
+        let place = at.wrapping_sub(self.address);
+        if place < self.width as u16 {
+            Some(self.value[place as usize])
         } else {
             None
         }

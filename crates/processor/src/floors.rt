@@ -103,8 +103,10 @@ pub(crate) fn floor_of(left: &[Departure], run: u8, line: u8) -> u16
     ensures { result ≡ floor run line left.now }
 {
     let mut flushes = LineFlushes::new();
-    for departure in left.iter().filter(|departure| departure.run == run) {
-        flushes.note(departure, line);
+    for departure in left {
+        if departure.run == run {
+            flushes.note(departure, line);
+        }
     }
     flushes.floor
 }
@@ -114,5 +116,11 @@ pub(crate) fn count_of(left: &[Departure], run: u8) -> u16
     requires { length left.now ≤ 512 }
     ensures { result ≡ count run left.now }
 {
-    left.iter().filter(|departure| departure.run == run).count() as u16
+    let mut count = 0;
+    for departure in left {
+        if departure.run == run {
+            count += 1;
+        }
+    }
+    count
 }

@@ -25,3 +25,4 @@ pub use numbers::{Below, CacheLine, NotBelow, Thread};
 pub use operations::Operation;
 pub use processor::{Playback, Processor};
 pub use sources::Source;
+pub use words::{EntryName, SourceName};

@@ -29,7 +29,7 @@ fn from_cached(departure: &Departure, run: u8, at: u16) -> Option<Source>
     if departure.run != run {
         return None;
     }
-    let Entry::Store(access) = departure.entry else {
+    let Entry::Store(access) = &departure.entry else {
         return None;
     };
     let moment = departure.moment;

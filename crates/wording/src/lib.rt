@@ -3,6 +3,9 @@
 
 mod lines;
 mod tally;
+#[cfg(test)]
+mod tests;
 
 pub use lines::{Line, list, list_by};
+pub use message::Told;
 pub use tally::Tally;

@@ -6,11 +6,12 @@ use crate::tally::Tally;
 use message::{FaultCode, Follower, KnownEvent, MessageFault, Reader};
 use std::fmt;
 
-// What a listing says of one message: its ordinal, and the event that it carries or why it is refused.
+// What a listing says of one message: its ordinal, and the event that it carries or why it is refused. Any value that has
+// words may stand for the event.
 #[derive(Clone, Copy, Debug, PartialEq, Eq, Hash)]
-pub struct Line<F> {
+pub struct Line<F, E = KnownEvent> {
     pub ordinal: u64,
-    pub said: Result<KnownEvent, F>,
+    pub said: Result<E, F>,
 }
 
 // The line of the next message that a follower is given, which is counted unless it is refused.
@@ -34,11 +35,11 @@ pub fn list(message: &[u8], tally: &mut Tally) -> Line<MessageFault>
     list_by(&mut Reader, message, tally)
 }
 
-impl<F: Copy + fmt::Display + Into<FaultCode>> fmt::Display for Line<F> {
+impl<F: Copy + fmt::Display + Into<FaultCode>, E: Copy + fmt::Display> fmt::Display for Line<F, E> {
     fn fmt<W: fmt::Write>(&self, f: &mut fmt::Formatter<W>) -> fmt::Result {
         let ordinal = self.ordinal;
         match self.said {
-            Ok(known) => write!(f, "{ordinal}: {known}"),
+            Ok(event) => write!(f, "{ordinal}: {event}"),
             Err(fault) => {
                 let code: FaultCode = fault.into();
                 write!(f, "{ordinal}: refused, since {fault}: {code}")

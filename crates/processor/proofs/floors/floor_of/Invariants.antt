@@ -1,8 +1,7 @@
-use Rattle.std.proofs.Common.{map, reverse}
-use Rattle.processor.specs.declared.departures.Departure.{Departure}
+use Rattle.std.proofs.Common.{reverse, take}
+use Rattle.processor.specs.Departures.{of_run}
 use Rattle.processor.proofs.Passing.{Tracks}
 use Rattle.processor.proofs.floors.floor_of.Given as goal
-use denote.Ref.{Bor}
 
 abbrev pub invariant-loop-departure : goal.invariant-loop-departure
-invariant-loop-departure l = Tracks l.line (reverse (map (λ (d : Bor Departure). d.now) l.yielded)) l.flushes
+invariant-loop-departure l = Tracks l.line (reverse (of_run l.run (take l.departure-index l.left))) l.flushes
