@@ -2,6 +2,7 @@ mod Last
 mod Hearing
 mod HistoryLaws
 mod Passing
+mod Present
 mod Bounds
 mod MachineFacts
 mod Made

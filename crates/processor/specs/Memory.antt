@@ -24,3 +24,7 @@ covers x b = nat_le x.address b && nat_lt b (x.address + x.width)
 
 abbrev pub byte_at : Span → ℕ → Option ℕ
 byte_at x b = cond (covers x b) (Some (slice_index x.value (b - x.address))) None
+
+-- whether two, each of a byte or more, have a byte in common
+abbrev pub overlap : Span → Span → Bool
+overlap x y = nat_lt x.address (y.address + y.width) && nat_lt y.address (x.address + x.width)

@@ -1,5 +1,5 @@
 -- Which store of the present run gives a byte.
-use Rattle.std.specs.Prelude.{◌≡◌, ℕ, ◌+◌, cond, List, [], ◌∷◌, ◌++◌, map, Some, None, Option, ◌==◌, nat_lt}
+use Rattle.std.specs.Prelude.{◌≡◌, ℕ, ◌+◌, ◌<◌, cond, List, [], ◌∷◌, ◌++◌, map, get_or, Some, None, Option, ◌==◌, nat_lt}
 use Rattle.std.specs.List.{range_with_len, AllByRecursion}
 use Rattle.std.specs.Option.{option_map, option_or}
 use Rattle.processor.specs.Machine.{Machine, row}
@@ -36,9 +36,16 @@ from_left b k (StrongFlush n) = None
 from_left b k (WeakFlush n) = None
 from_left b k StoreFence = None
 
+abbrev pub from_departure : ℕ → Departure → Option Source
+from_departure b d = from_left b d.moment d.entry
+
 -- what a store cached in run r gives for it
 abbrev pub from_cached : ℕ → ℕ → Departure → Option Source
 from_cached r b d = cond (d.run == r) (from_left b d.moment d.entry) None
+
+-- these give each byte of an access the last store cached in run r that covers it; behind the last byte they hold anything
+abbrev pub AreCached : ℕ → List Departure → Access → List (Option Source) → Type 0
+AreCached r D x cached = (i : ℕ) → i < x.width → get_or cached i None ≡ last_of (from_cached r (x.address + i)) D
 
 -- the youngest store waiting in the thread's own buffer that covers the byte; without one, the last store cached in the present
 -- run that does

@@ -1,6 +1,6 @@
 // Bytes of the memory that one store writes or one load reads.
-ghost use Rattle.std.specs.Prelude.{◌≡◌};
-ghost use Rattle.processor.specs.Memory.{line, byte_at};
+ghost use Rattle.std.specs.Prelude.{◌≡◌, ◌+◌};
+ghost use Rattle.processor.specs.Memory.{line, byte_at, overlap};
 
 use std::marker::Model;
 
@@ -33,10 +33,28 @@ impl Access {
         message::line_of(self.address) as u8
     }
 
+    // The address behind its last byte.
+    pub(crate) fn end(&self) -> u16
+        ensures { result ≡ self.now.address + self.now.width }
+    {
+        self.address + self.width as u16
+    }
+
+    // Whether it has a byte in common with another, if both have some.
+    pub(crate) fn overlaps(&self, other: &Access) -> bool
+        ensures { result ≡ overlap self.now other.now }
+    {
+        // How far before the other's end it begins; where it begins behind that, the difference wraps beyond any width. None
+        // is wider than 8, so most lie too far away, which the first comparison tells.
+        let lead = other.end().wrapping_sub(self.address);
+        lead < other.width as u16 + 8 && other.address < self.end() && lead != 0
+    }
+
     // The byte that it has for an address, if it covers that.
     pub(crate) fn byte_at(&self, at: u16) -> Option<u8>
         ensures { result ≡ byte_at self.now at }
     {
+        // from an address below, the difference wraps beyond any width
         let place = at.wrapping_sub(self.address);
         if place < self.width as u16 {
             Some(self.value[place as usize])

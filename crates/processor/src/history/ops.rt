@@ -1,10 +1,11 @@
 // What the history does: an entry leaves, a run is closed, and what follows from all that left.
 ghost use Rattle.std.specs.Prelude.{◌≡◌, ◌<◌, [], length};
-ghost use Rattle.processor.specs.Departures.{count, floor};
+ghost use Rattle.processor.specs.Departures.{count, floor, of_run};
 ghost use Rattle.processor.specs.History.{Recorded, past, left_next, closed};
-ghost use Rattle.processor.specs.Sources.{last_of, from_cached};
+ghost use Rattle.processor.specs.Sources.{AreCached};
 
 use super::History;
+use crate::accesses::Access;
 use crate::departures::Departure;
 use crate::entries::Entry;
 use crate::floors::{count_of, floor_of};
@@ -65,11 +66,19 @@ impl History {
         floor_of(self.left.as_slice(), run, line)
     }
 
-    // The last store cached in the present run that covers the byte at an address.
-    pub(crate) fn source(&self, at: u16) -> Option<Source>
-        ensures { result ≡ last_of (from_cached self.now.run at) self.now.left }
+    // What left in the present run.
+    fn present(&self) -> &[Departure]
+        ensures { result.now ≡ of_run self.now.run self.now.left }
     {
-        last_cached(self.left.as_slice(), self.run, at)
+        let closed = self.left.len() - self.present_count as usize;
+        &self.left.as_slice()[closed..]
+    }
+
+    // For each byte of an access, the last store cached in the present run that covers it.
+    pub(crate) fn cached(&self, access: &Access) -> [Option<Source>; 8]
+        ensures { AreCached self.now.run self.now.left access.now result }
+    {
+        last_cached(self.present(), access)
     }
 
     // An entry of a thread leaves at the next moment of the present run.

@@ -3,7 +3,7 @@ ghost use Rattle.std.specs.Prelude.{◌≡◌, ◌+◌, ◌<◌, ◌≤◌, leng
 ghost use Rattle.processor.specs.Laws.{Laws};
 ghost use Rattle.processor.specs.Machine.{opened, acted, drained, fenced, row};
 ghost use Rattle.processor.specs.Operations.{Performs};
-ghost use Rattle.processor.specs.Sources.{source, source_within, sources_of};
+ghost use Rattle.processor.specs.Sources.{AreCached, from_cached, last_of, source, source_within, sources_of};
 ghost use Rattle.processor.specs.declared.faults.CaseFault.TheVariants as fault;
 ghost use Rattle.processor.specs.declared.operations.Operation.TheVariants as asked;
 
@@ -74,20 +74,28 @@ impl Processor {
         self.act(thread, Entry::StoreFence);
     }
 
-    // Which store of the present run gives a thread the byte at an address.
-    fn source(&self, thread: Thread, at: u16) -> Option<Source>
+    // Which store of the present run gives a thread the byte at an address, given the last one that is cached.
+    fn source(&self, thread: Thread, at: u16, cached: Option<Source>) -> Option<Source>
+        requires { cached ≡ last_of (from_cached self.now.run at) self.now.left }
         ensures { result ≡ source self.now thread at }
     {
         let waiting = last_waiting(self.buffers.row(thread), at);
-        waiting.or(self.history.source(at))
+        waiting.or(cached)
     }
 
     // The same for the byte of an access at a place, if it has one there.
-    fn source_within(&self, thread: Thread, access: &Access, place: usize) -> Option<Source>
+    fn source_within(
+        &self,
+        thread: Thread,
+        access: &Access,
+        place: usize,
+        cached: &[Option<Source>; 8],
+    ) -> Option<Source>
+        requires { AreCached self.now.run self.now.left access.now cached.now }
         ensures { result ≡ source_within self.now thread access.now place }
     {
         if place < access.width as usize {
-            self.source(thread, access.address + place as u16)
+            self.source(thread, access.address + place as u16, cached[place])
         } else {
             None
         }
@@ -97,7 +105,8 @@ impl Processor {
     fn sources(&self, thread: Thread, access: &Access) -> [Option<Source>; 8]
         ensures { result ≡ sources_of self.now thread access.now }
     {
-        array::from_fn(|place| self.source_within(thread, access, place))
+        let cached = self.history.cached(access);
+        array::from_fn(|place| self.source_within(thread, access, place, &cached))
     }
 
     // An entry enters its thread's buffer.
