@@ -1,6 +1,5 @@
 -- The last of a list that gives anything.
-use Rattle.std.proofs.Common.{◌≡◌, ℕ, zero, suc, ◌+◌, ◌-◌, ◌<◌, ◌≤◌, List, [], ◌∷◌, ◌++◌, length, get_or, take, Some, None, Option, MatchOption, IfSome, IsSome, IsSomeAnd, true, sym, refl, ap, ap₂, ◌∙◌, arith}
-use Rattle.std.proofs.lemmas.Bool.{false≢true}
+use Rattle.std.proofs.Common.{◌≡◌, ℕ, zero, suc, ◌+◌, ◌-◌, ◌<◌, ◌≤◌, List, [], ◌∷◌, ◌++◌, length, get_or, take, Some, None, Option, MatchOption, IfSome, IsSomeAnd, true, sym, refl, ap, ap₂, ◌∙◌, arith}
 use Rattle.std.proofs.lemmas.List.{take_all, take_more}
 use Rattle.std.specs.Fn.{Called}
 use Rattle.std.specs.Iterator.Runs.{Run, AllItemsGive, IsFirstToGive, IsIdenticalRun, ItemsMapToReversed}
@@ -16,23 +15,19 @@ pub or_none : {A : Type 0} (o : Option A) → option_or o None ≡ o
 or_none None = refl
 or_none (Some x) = refl
 
-pub or_some : {A : Type 0} (o p : Option A) → IsSome o → option_or o p ≡ o
-or_some None p s = absurd (false≢true s)
-or_some (Some x) p s = refl
-
 module _ {A B : Type 0} (f : A → Option B) where
   last_push : (xs : List A) (x : A) → last_of f (xs ++ x ∷ []) ≡ option_or (f x) (last_of f xs)
   last_push [] x = sym (or_none (f x))
   last_push (y ∷ xs) x = ap (λ o. option_or o (f y)) (last_push xs x) ∙ or_assoc (f x) (last_of f xs) (f y)
 
-  -- from the back: what was found, or what stands last gives, or what stands before it does
-  pub last_from_back : (o p : Option B) (xs : List A) (x : A) → 0 < length xs → x ≡ get_or xs (length xs - 1) x → p ≡ option_or o (f x) → option_or p (last_of f (take (length xs - 1) xs)) ≡ option_or o (last_of f xs)
-  last_from_back o p xs x l is adds =
+  -- without what stands last, where that gives nothing
+  pub last_before : (xs : List A) (x : A) → 0 < length xs → x ≡ get_or xs (length xs - 1) x → f x ≡ None → last_of f (take (length xs - 1) xs) ≡ last_of f xs
+  last_before xs x l is none =
       let i = length xs - 1 in
       let whole : take (i + 1) xs ≡ xs = take_all (i + 1) xs (omega arith) in
-      ap (λ q. option_or q (last_of f (take i xs))) (adds ∙ ap (λ y. option_or o (f y)) is)
-      ∙ or_assoc o (f (get_or xs i x)) (last_of f (take i xs))
-      ∙ ap (option_or o) (sym (last_push (take i xs) (get_or xs i x)) ∙ ap (last_of f) (sym (take_more xs i x (omega arith)) ∙ whole))
+      ap (λ o. option_or o (last_of f (take i xs))) (sym none ∙ ap f is)
+      ∙ sym (last_push (take i xs) (get_or xs i x))
+      ∙ ap (last_of f) (sym (take_more xs i x (omega arith)) ∙ whole)
 
   last_one : (x : A) (xs : List A) (o p : Option B) → Last f xs o → f x ≡ p → Last f (x ∷ xs) (option_or o p)
   last_one x xs (Some y) p (before, z, after, stands, gives, none) q = (x ∷ before, z, after, ap (λ (l : List A). x ∷ l) stands, gives, none)

@@ -5,7 +5,6 @@ mod Passing
 mod Present
 mod Bounds
 mod MachineFacts
-mod Made
 mod Steps
 mod Played
 mod Grows

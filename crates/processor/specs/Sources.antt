@@ -1,5 +1,5 @@
 -- Which store of the present run gives a byte.
-use Rattle.std.specs.Prelude.{◌≡◌, ℕ, ◌+◌, ◌<◌, cond, List, [], ◌∷◌, ◌++◌, map, get_or, Some, None, Option, ◌==◌, nat_lt}
+use Rattle.std.specs.Prelude.{◌≡◌, ℕ, ◌+◌, ◌<◌, cond, List, [], ◌∷◌, ◌++◌, map, Some, None, Option, ◌==◌, nat_lt}
 use Rattle.std.specs.List.{range_with_len, AllByRecursion}
 use Rattle.std.specs.Option.{option_map, option_or}
 use Rattle.processor.specs.Machine.{Machine, row}
@@ -43,9 +43,10 @@ from_departure b d = from_left b d.moment d.entry
 abbrev pub from_cached : ℕ → ℕ → Departure → Option Source
 from_cached r b d = cond (d.run == r) (from_left b d.moment d.entry) None
 
--- these give each byte of an access the last store cached in run r that covers it; behind the last byte they hold anything
-abbrev pub AreCached : ℕ → List Departure → Access → List (Option Source) → Type 0
-AreCached r D x cached = (i : ℕ) → i < x.width → get_or cached i None ≡ last_of (from_cached r (x.address + i)) D
+-- these, of what left in run r, are enough for an access: for each of its bytes, the last store of them that covers it is the
+-- last one that was cached in the run
+abbrev pub Reaches : ℕ → List Departure → Access → List Departure → Type 0
+Reaches r D x reach = (i : ℕ) → i < x.width → last_of (from_departure (x.address + i)) reach ≡ last_of (from_cached r (x.address + i)) D
 
 -- the youngest store waiting in the thread's own buffer that covers the byte; without one, the last store cached in the present
 -- run that does

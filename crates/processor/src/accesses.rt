@@ -44,10 +44,10 @@ impl Access {
     pub(crate) fn overlaps(&self, other: &Access) -> bool
         ensures { result ≡ overlap self.now other.now }
     {
-        // How far before the other's end it begins; where it begins behind that, the difference wraps beyond any width. None
-        // is wider than 8, so most lie too far away, which the first comparison tells.
-        let lead = other.end().wrapping_sub(self.address);
-        lead < other.width as u16 + 8 && other.address < self.end() && lead != 0
+        // It has to begin before the other's end and, since none is wider than 8, at most 7 bytes before its address. One
+        // comparison tells both, as below that the difference wraps beyond any width; most lie too far away, and end here.
+        let lowest = other.address.wrapping_sub(7);
+        self.address.wrapping_sub(lowest) < other.width as u16 + 7 && other.address < self.end()
     }
 
     // The byte that it has for an address, if it covers that.

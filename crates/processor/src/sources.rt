@@ -1,6 +1,5 @@
 // Where a loaded byte comes from within the run of the load.
-ghost use Rattle.std.specs.Prelude.{◌≡◌, ℕ, ◌+◌, ◌<◌, ◌≤◌, false, true, None, length, get_or, IsSome};
-ghost use Rattle.std.specs.Option.{option_or};
+ghost use Rattle.std.specs.Prelude.{◌≡◌, ℕ, ◌+◌, ◌<◌, false, None};
 ghost use Rattle.processor.specs.Sources.{from_departure, from_waiting, last_of};
 
 use crate::accesses::Access;
@@ -57,12 +56,20 @@ pub(crate) fn last_waiting(entries: &[Entry], at: u16) -> Option<Source>
         .find_map(|entry| from_waiting(entry, at))
 }
 
-// What left up to the last store that covers a byte of an access; nothing where none does. A case spends most of its time
-// here, so the loop stands apart from all others, and reads the access before it.
+// The last store of those that left that covers it.
+pub(crate) fn last_cached(left: &[Departure], at: u16) -> Option<Source>
+    ensures { result ≡ last_of (from_departure at) left.now }
+{
+    left.iter()
+        .rev()
+        .find_map(|departure| from_departure(departure, at))
+}
+
+// What left up to the last store that covers a byte of an access, so that what came behind it is passed once, and not for each
+// byte. The loop stands apart from those around it, and reads the access first, as most of a load's time goes here.
 #[inline(never)]
-fn up_to_last<'a>(left: &'a [Departure], access: &Access) -> &'a [Departure]
-    ensures reaches { (i : ℕ) → i < access.now.width → last_of (from_departure (access.now.address + i)) result.now ≡ last_of (from_departure (access.now.address + i)) left.now }
-    ensures shorter { length result.now ≤ length left.now }
+pub(crate) fn up_to_last<'a>(left: &'a [Departure], access: &Access) -> &'a [Departure]
+    ensures { (i : ℕ) → i < access.now.width → last_of (from_departure (access.now.address + i)) result.now ≡ last_of (from_departure (access.now.address + i)) left.now }
 {
     let access = *access;
     let mut rest = left;
@@ -72,42 +79,4 @@ fn up_to_last<'a>(left: &'a [Departure], access: &Access) -> &'a [Departure]
         rest = before;
     }
     rest
-}
-
-// A store that left gives the bytes of an access that it covers and that nothing gave yet.
-fn fill(sources: &mut [Option<Source>; 8], departure: &Departure, access: &Access)
-    ensures { (i : ℕ) → i < access.now.width → get_or sources.new i None ≡ option_or (get_or sources.old i None) (from_departure (access.now.address + i) departure.now) }
-{
-    let Entry::Store(store) = &departure.entry else {
-        return;
-    };
-    for at in store.address.max(access.address)..store.end().min(access.end()) {
-        let place = (at - access.address) as usize;
-        if sources[place].is_none() {
-            sources[place] = from_departure(departure, at);
-        }
-    }
-}
-
-// Whether each byte of an access has a source.
-fn is_complete(sources: &[Option<Source>; 8], access: &Access) -> bool
-    ensures { result ≡ true → (i : ℕ) → i < access.now.width → IsSome (get_or sources.now i None) }
-{
-    (0..access.width as usize).all(|place| sources[place].is_some())
-}
-
-// For each byte of an access, the last store of those that left that covers it. Each is looked at once, for all the bytes.
-pub(crate) fn last_cached(left: &[Departure], access: &Access) -> [Option<Source>; 8]
-    ensures { (i : ℕ) → i < access.now.width → get_or result i None ≡ last_of (from_departure (access.now.address + i)) left.now }
-{
-    let mut sources = [None; 8];
-    let mut rest = up_to_last(left, access);
-    while let [before @ .., departure] = rest {
-        fill(&mut sources, departure, access);
-        if is_complete(&sources, access) {
-            break;
-        }
-        rest = up_to_last(before, access);
-    }
-    sources
 }

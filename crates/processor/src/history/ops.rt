@@ -2,7 +2,7 @@
 ghost use Rattle.std.specs.Prelude.{◌≡◌, ◌<◌, [], length};
 ghost use Rattle.processor.specs.Departures.{count, floor, of_run};
 ghost use Rattle.processor.specs.History.{Recorded, past, left_next, closed};
-ghost use Rattle.processor.specs.Sources.{AreCached};
+ghost use Rattle.processor.specs.Sources.{Reaches};
 
 use super::History;
 use crate::accesses::Access;
@@ -10,7 +10,7 @@ use crate::departures::Departure;
 use crate::entries::Entry;
 use crate::floors::{count_of, floor_of};
 use crate::numbers::Thread;
-use crate::sources::{Source, last_cached};
+use crate::sources::up_to_last;
 use tables::Table;
 
 const NO_DEPARTURE: Departure = Departure {
@@ -74,11 +74,11 @@ impl History {
         &self.left.as_slice()[closed..]
     }
 
-    // For each byte of an access, the last store cached in the present run that covers it.
-    pub(crate) fn cached(&self, access: &Access) -> [Option<Source>; 8]
-        ensures { AreCached self.now.run self.now.left access.now result }
+    // As much of that as the bytes of an access need.
+    pub(crate) fn reach(&self, access: &Access) -> &[Departure]
+        ensures { Reaches self.now.run self.now.left access.now result.now }
     {
-        last_cached(self.present(), access)
+        up_to_last(self.present(), access)
     }
 
     // An entry of a thread leaves at the next moment of the present run.

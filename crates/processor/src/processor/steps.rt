@@ -3,21 +3,21 @@ ghost use Rattle.std.specs.Prelude.{◌≡◌, ◌+◌, ◌<◌, ◌≤◌, leng
 ghost use Rattle.processor.specs.Laws.{Laws};
 ghost use Rattle.processor.specs.Machine.{opened, acted, drained, fenced, row};
 ghost use Rattle.processor.specs.Operations.{Performs};
-ghost use Rattle.processor.specs.Sources.{AreCached, from_cached, last_of, source, source_within, sources_of};
+ghost use Rattle.processor.specs.Sources.{from_cached, from_departure, last_of, source, sources_of};
 ghost use Rattle.processor.specs.declared.faults.CaseFault.TheVariants as fault;
 ghost use Rattle.processor.specs.declared.operations.Operation.TheVariants as asked;
 
 use super::Processor;
 use crate::accesses::Access;
 use crate::buffers::Buffers;
+use crate::departures::Departure;
 use crate::entries::Entry;
 use crate::faults::{BufferFault, CaseFault};
 use crate::history::{CUTS, History, MOMENTS};
 use crate::loads::Load;
 use crate::numbers::Thread;
 use crate::operations::Operation;
-use crate::sources::{Source, last_waiting};
-use std::array;
+use crate::sources::{Source, last_cached, last_waiting};
 use tables::Table;
 
 const NO_LOAD: Load = Load {
@@ -74,39 +74,25 @@ impl Processor {
         self.act(thread, Entry::StoreFence);
     }
 
-    // Which store of the present run gives a thread the byte at an address, given the last one that is cached.
-    fn source(&self, thread: Thread, at: u16, cached: Option<Source>) -> Option<Source>
-        requires { cached ≡ last_of (from_cached self.now.run at) self.now.left }
+    // Which store of the present run gives a thread the byte at an address, given as much of what left as that needs.
+    fn source(&self, thread: Thread, at: u16, reach: &[Departure]) -> Option<Source>
+        requires { last_of (from_departure at) reach.now ≡ last_of (from_cached self.now.run at) self.now.left }
         ensures { result ≡ source self.now thread at }
     {
         let waiting = last_waiting(self.buffers.row(thread), at);
-        waiting.or(cached)
-    }
-
-    // The same for the byte of an access at a place, if it has one there.
-    fn source_within(
-        &self,
-        thread: Thread,
-        access: &Access,
-        place: usize,
-        cached: &[Option<Source>; 8],
-    ) -> Option<Source>
-        requires { AreCached self.now.run self.now.left access.now cached.now }
-        ensures { result ≡ source_within self.now thread access.now place }
-    {
-        if place < access.width as usize {
-            self.source(thread, access.address + place as u16, cached[place])
-        } else {
-            None
-        }
+        waiting.or(last_cached(reach, at))
     }
 
     // The same for each byte of an access.
     fn sources(&self, thread: Thread, access: &Access) -> [Option<Source>; 8]
         ensures { result ≡ sources_of self.now thread access.now }
     {
-        let cached = self.history.cached(access);
-        array::from_fn(|place| self.source_within(thread, access, place, &cached))
+        let reach = self.history.reach(access);
+        let mut sources = [None; 8];
+        for place in 0..access.width as usize {
+            sources[place] = self.source(thread, access.address + place as u16, reach);
+        }
+        sources
     }
 
     // An entry enters its thread's buffer.
