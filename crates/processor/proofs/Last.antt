@@ -20,14 +20,18 @@ module _ {A B : Type 0} (f : A → Option B) where
   last_push [] x = sym (or_none (f x))
   last_push (y ∷ xs) x = ap (λ o. option_or o (f y)) (last_push xs x) ∙ or_assoc (f x) (last_of f xs) (f y)
 
-  -- without what stands last, where that gives nothing
-  pub last_before : (xs : List A) (x : A) → 0 < length xs → x ≡ get_or xs (length xs - 1) x → f x ≡ None → last_of f (take (length xs - 1) xs) ≡ last_of f xs
-  last_before xs x l is none =
+  -- what stands last, or else what stands before it
+  pub last_or_before : (xs : List A) (x : A) → 0 < length xs → x ≡ get_or xs (length xs - 1) x → option_or (f x) (last_of f (take (length xs - 1) xs)) ≡ last_of f xs
+  last_or_before xs x l is =
       let i = length xs - 1 in
       let whole : take (i + 1) xs ≡ xs = take_all (i + 1) xs (omega arith) in
-      ap (λ o. option_or o (last_of f (take i xs))) (sym none ∙ ap f is)
+      ap (λ y. option_or (f y) (last_of f (take i xs))) is
       ∙ sym (last_push (take i xs) (get_or xs i x))
       ∙ ap (last_of f) (sym (take_more xs i x (omega arith)) ∙ whole)
+
+  -- without what stands last, where that gives nothing
+  pub last_before : (xs : List A) (x : A) → 0 < length xs → x ≡ get_or xs (length xs - 1) x → f x ≡ None → last_of f (take (length xs - 1) xs) ≡ last_of f xs
+  last_before xs x l is none = ap (λ o. option_or o (last_of f (take (length xs - 1) xs))) (sym none) ∙ last_or_before xs x l is
 
   last_one : (x : A) (xs : List A) (o p : Option B) → Last f xs o → f x ≡ p → Last f (x ∷ xs) (option_or o p)
   last_one x xs (Some y) p (before, z, after, stands, gives, none) q = (x ∷ before, z, after, ap (λ (l : List A). x ∷ l) stands, gives, none)

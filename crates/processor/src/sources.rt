@@ -56,8 +56,9 @@ pub(crate) fn last_waiting(entries: &[Entry], at: u16) -> Option<Source>
         .find_map(|entry| from_waiting(entry, at))
 }
 
-// The last store of those that left that covers it.
-pub(crate) fn last_cached(left: &[Departure], at: u16) -> Option<Source>
+// The last store of those that left that covers it. The loop stands apart from those around it, as in `up_to_last`.
+#[inline(never)]
+fn last_store(left: &[Departure], at: u16) -> Option<Source>
     ensures { result ≡ last_of (from_departure at) left.now }
 {
     left.iter()
@@ -65,8 +66,18 @@ pub(crate) fn last_cached(left: &[Departure], at: u16) -> Option<Source>
         .find_map(|departure| from_departure(departure, at))
 }
 
+// The same; most often it is the very last of them, which is looked at first.
+pub(crate) fn last_cached(left: &[Departure], at: u16) -> Option<Source>
+    ensures { result ≡ last_of (from_departure at) left.now }
+{
+    let [before @ .., departure] = left else {
+        return None;
+    };
+    from_departure(departure, at).or_else(|| last_store(before, at))
+}
+
 // What left up to the last store that covers a byte of an access, so that what came behind it is passed once, and not for each
-// byte. The loop stands apart from those around it, and reads the access first, as most of a load's time goes here.
+// byte. The loop stands apart from those around it, and reads the access first: a load may spend most of its time here.
 #[inline(never)]
 pub(crate) fn up_to_last<'a>(left: &'a [Departure], access: &Access) -> &'a [Departure]
     ensures { (i : ℕ) → i < access.now.width → last_of (from_departure (access.now.address + i)) result.now ≡ last_of (from_departure (access.now.address + i)) left.now }

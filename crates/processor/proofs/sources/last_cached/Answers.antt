@@ -1,12 +1,12 @@
-use Rattle.std.proofs.Common.{◌≡◌, ap, ◌∙◌, rules, tests}
-use Rattle.processor.specs.Sources.{last_of, from_departure}
-use Rattle.processor.proofs.Last.{found_last}
+use Rattle.std.proofs.Common.{◌≡◌, ◌-◌, length, take, ◌∙◌, rules, tests, arith}
+use Rattle.std.specs.Option.{option_or}
+use Rattle.processor.specs.Sources.{from_departure, last_of}
+use Rattle.processor.proofs.Last.{last_or_before}
 use Rattle.processor.proofs.sources.last_cached.Goals as goal
 
 pub returns : goal.returns
 returns c =
-    let (p, from, said) = c.find_map.ensures.runs in
-    let (q, start, same) = c.rev.ensures.runs p p.seen from in
-    let all : q.from.rest.now ≡ c.args.left.now = cc in
-    found_last p q same (λ y. y.now) q.from.rest.now (c.iter.ensures.runs_back q q.seen) (from_departure c.args.at) (λ x o f k. search (rules, tests)) c.find_map.result said
-    ∙ ap (last_of (from_departure c.args.at)) all
+    let f = from_departure c.args.at in
+    let D = c.args.left.now in
+    let given : c.or_else.result ≡ option_or (f c.departure-item.result) (last_of f (take (length D - 1) D)) = search (rules, tests) in
+    given ∙ last_or_before f D c.departure-item.result (omega arith) c.departure-item.is
